@@ -1,0 +1,10 @@
+pub mod Checks
+pub mod Ring
+pub mod Field
+pub mod Residues
+pub mod Polynomial
+pub mod Rows
+pub mod Quotient
+pub mod Symbol
+pub mod Tables
+pub mod Faults

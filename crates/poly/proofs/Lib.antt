@@ -1,0 +1,4 @@
+pub mod Operands
+pub mod Products
+pub mod Derivatives
+pub mod Results
