@@ -12,6 +12,8 @@ pub mod CommonDivisors
 pub mod Totals
 pub mod Rows
 pub mod Writing
+pub mod RowPolynomials
+pub mod Divisions
 -- The laws of residues and prime fields
 pub mod OnCodes
 pub mod ResidueRings
@@ -23,6 +25,11 @@ pub mod Ranges
 pub mod Coding
 pub mod Digits
 pub mod Quotients
+pub mod Remainders
+pub mod RowSteps
+pub mod RowProducts
+pub mod RowDigits
+pub mod RowCodes
 pub mod QuotientRings
 pub mod Extensions
 pub mod Unsplittable

@@ -3,11 +3,18 @@
 use mathlib.Core.Path.{_≡_}
 use mathlib.Core.List.{List, [], _∷_, _++_, map}
 use Prim.Native.Nat.{ℕ, zero, suc, _+_, _-_, _*_, _/_, _%_, _^_, _<_}
-use lib.ListN.{replicate}
+use lib.ListN.{length, replicate}
 use Rattle.field.specs.Checks.{below}
 use Rattle.field.specs.Ring.{RingMeaning, one, on-codes}
 use Rattle.field.specs.Field.{FieldMeaning, FieldExtras, means, inverse-in}
 use Rattle.field.specs.Polynomial.{coefficient, Canonical, sum, product, or-zero, trimmed}
+
+-- k is 2 to 16
+abbrev pub least-height : ℕ
+least-height = 2
+
+abbrev pub greatest-height : ℕ
+greatest-height = 16
 
 -- the k lowest digits of x in base b, the lowest first
 unfoldable pub digits : ℕ → ℕ → ℕ → List ℕ
@@ -35,6 +42,10 @@ lowered r k m a g = map (λ i. r .sum (coefficient (a ∷ g) i) (r .opposite (r 
 unfoldable pub reduced : RingMeaning → ℕ → ℕ → List ℕ → List ℕ
 reduced r k m [] = replicate k 0
 reduced r k m (a ∷ f) = lowered r k m a (reduced r k m f)
+
+-- the codes of the remainder of f by the monic polynomial with these lower codes, of which there are as many as its degree
+abbrev pub reduced-by : RingMeaning → List ℕ → List ℕ → List ℕ
+reduced-by r lower f = reduced r (length lower) (from-digits (r .order) lower) f
 
 -- sums and opposites digit by digit, products reduced by the modulus
 abbrev pub quotient-ring : RingMeaning → ℕ → ℕ → RingMeaning

@@ -8,6 +8,12 @@ pub enum FieldFault {
     Modulus = 1,
     // the modulus of a prime field is not prime
     NotPrime = 2,
+    // k of a quotient is not 2 to 16
+    Height = 3,
+    // the order of a quotient is above 65,536
+    Order = 4,
+    // the number of a quotient's modulus is not below its order
+    Number = 5,
 }
 
 impl FieldFault {

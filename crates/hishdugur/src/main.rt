@@ -1,14 +1,23 @@
-// Forms the generator polynomial of the CCSDS (255,223) Reed-Solomon code over the symbol field and evaluates it at its 32 roots, then
-// multiplies the frame check polynomial X^16 + X^12 + X^5 + 1 back from its factors over order 2.
+// Forms the generator polynomial of the CCSDS (255,223) Reed-Solomon code over the symbol field and evaluates it at its 32 roots; then,
+// over order 2, multiplies the frame check polynomial X^16 + X^12 + X^5 + 1 back from its factors, divides it by its derivative and takes
+// their greatest common divisor.
+ghost use mathlib.Core.Path.{_≡_};
+ghost use Prim.Native.Nat.{min};
+ghost use lib.ListN.{length, take};
+ghost use Rattle.field.specs.contracts.primes.PrimeFieldRing.the-impl.{ghosts as primeRing};
 mod work;
 
 use field::FieldFaultDebug;
 use field::PrimeField;
+use field::PrimeFieldField;
 use field::PrimeFieldRing;
 use field::Ring;
 use field::SymbolField;
 use field::SymbolFieldRing;
 use poly::MOST_CODES;
+use poly::derivative;
+use poly::divide;
+use poly::gcd;
 use poly::product;
 use poly::value;
 use std::error::AnyError;
@@ -21,6 +30,13 @@ use work::root;
 const LINEAR: [u16; 2] = [1, 1];
 
 const COFACTOR: [u16; 16] = [1, 1, 1, 1, 1, 0, 0, 0, 0, 0, 0, 0, 1, 1, 1, 1];
+
+// The first n codes of a buffer, or all of them.
+fn front(codes: &[u16], n: usize) -> &[u16]
+    ensures { λ r. ⌜ now r ≡ take (min n (length (now (codes .entry)))) (now (codes .entry)) ⌝ }
+{
+    &codes[..n.min(codes.len())]
+}
 
 // Prints a polynomial with the order of its ring and its degree.
 fn show(rt: &impl Print, order: u32, codes: &[u16]) -> Result<(), AnyError> {
@@ -39,7 +55,7 @@ fn reed_solomon(rt: &impl Print) -> Result<(), AnyError> {
     let Ok(n) = generator(&field, &mut codes) else {
         return Err("the generator polynomial is refused".into());
     };
-    let polynomial = &codes[..n];
+    let polynomial = front(&codes, n);
     show(rt, field.order(), polynomial)?;
     let mut zeros = 0u32;
     for i in 0..ROOTS {
@@ -59,7 +75,35 @@ fn frame_check(rt: &impl Print) -> Result<(), AnyError> {
     let Ok(n) = product(&field, &LINEAR, &COFACTOR, &mut codes) else {
         return Err("the product is refused".into());
     };
-    show(rt, field.order(), &codes[..n])
+    let check = front(&codes, n);
+    show(rt, field.order(), check)?;
+    against_derivative(rt, field, check)
+}
+
+// Divides a polynomial by its derivative, and takes their greatest common divisor.
+fn against_derivative(rt: &impl Print, field: PrimeField, check: &[u16]) -> Result<(), AnyError>
+    requires { ⌜ primeRing .made field ⌝ }
+{
+    let mut slope = [0u16; MOST_CODES];
+    let Ok(n) = derivative(&field, check, &mut slope) else {
+        return Err("the derivative is refused".into());
+    };
+    let slope = front(&slope, n);
+    let mut quotient = [0u16; MOST_CODES];
+    let mut remainder = [0u16; MOST_CODES];
+    let Ok((k, l)) = divide(&field, check, slope, &mut quotient, &mut remainder) else {
+        return Err("the division is refused".into());
+    };
+    print!(rt, "by its derivative: quotient ")?;
+    show(rt, field.order(), front(&quotient, k))?;
+    print!(rt, "by its derivative: remainder ")?;
+    show(rt, field.order(), front(&remainder, l))?;
+    let mut common = [0u16; MOST_CODES];
+    let Ok(d) = gcd(&field, check, slope, &mut common) else {
+        return Err("the common divisor is refused".into());
+    };
+    print!(rt, "with its derivative: common divisor ")?;
+    show(rt, field.order(), front(&common, d))
 }
 
 fn run(rt: &impl Print) -> Result<(), AnyError> {

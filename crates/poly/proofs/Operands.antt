@@ -1,9 +1,9 @@
 -- An operand that is not refused is a polynomial of at most `most-codes` codes, and each such polynomial is taken; why any other
 -- operand is refused.
--- Main statements: taken-is-canonical, canonical-is-taken; refused-code, refused-last; passes, both-none.
+-- Main statements: taken-is-canonical, canonical-is-taken; refused-code, refused-last; zero-refused, divisor-taken; passes, both-none.
 use mathlib.Core.Path.{_≡_, refl, ap, ap₂, subst}
 use mathlib.Core.Bool.{Bool, true, false, not, _&&_, _||_}
-use mathlib.Core.Logic.{inl, inr}
+use mathlib.Core.Logic.{_≢_, inl, inr}
 use mathlib.Core.List.{List}
 use Prim.Native.Nat.{ℕ, _+_, _<_, _≤_}
 use native.Mathlib.Decide.{decLt}
@@ -20,8 +20,8 @@ use Rattle.field.proofs.Tests.{both-left, both-right, either, refuted}
 use Rattle.field.proofs.Searches.{Sought, sought, first-found, none-found}
 use Rattle.field.proofs.Ranges.{some-none, passed, first-none, second-none}
 use Rattle.poly.specs.declared.fault.PolyFault.{PolyFault}
-use Rattle.poly.specs.declared.fault.PolyFault.the-variants.{Length, NotCode, LastZero}
-use Rattle.poly.specs.Faults.{most-codes, at-index, first-bad, operand-refusal}
+use Rattle.poly.specs.declared.fault.PolyFault.the-variants.{Length, NotCode, LastZero, ZeroDivisor}
+use Rattle.poly.specs.Faults.{most-codes, at-index, first-bad, is-zero, operand-refusal, operands-refusal, division-refusal}
 
 pub passes : (b : Bool) (e : PolyFault) → b ≡ true → unless b e ≡ None
 passes true e h = refl
@@ -31,7 +31,7 @@ pub both-none : (o p : Option PolyFault) → o ≡ None → p ≡ None → (o or
 both-none o p a b = rw (a, b)
 
 -- the second of two checks refuses
-second-some : (o p : Option PolyFault) (e : PolyFault) → o ≡ None → p ≡ Some e → (o or-else p) ≡ Some e
+pub second-some : (o p : Option PolyFault) (e : PolyFault) → o ≡ None → p ≡ Some e → (o or-else p) ≡ Some e
 second-some o p e a b = rw (a, b)
 
 first-some : (o p : Option PolyFault) (e : PolyFault) → o ≡ Some e → (o or-else p) ≡ Some e
@@ -111,3 +111,24 @@ module _ (m : RingMeaning) (f : List ℕ) where
       ends : Dec (1 < length f) → (eqb (length f) 1 || not (eqb (leading f) 0)) ≡ true
       ends (yes h) = or-right (eqb (length f) 1) (not (eqb (leading f) 0)) (ap not (ne-eqb (leading f) 0 (k .leads h)))
       ends (no h) = ap (λ (b : Bool). b || not (eqb (leading f) 0)) (eq-eqb (length f) 1 (omega (arith, k .some-code)))
+
+-- the divisor of a division whose operands are polynomials: refused if its last code is 0
+module _ (m : RingMeaning) (f g : List ℕ) (fits : operand-refusal m f ≡ None) (goes : operand-refusal m g ≡ None) where
+  last-zero : leading g ≡ 0 → is-zero g ≡ true
+  last-zero z = ap₂ _&&_ (eq-eqb (length g) 1 one-code) (eq-eqb (leading g) 0 z)
+    where
+      one-code : length g ≡ 1
+      one-code = elim (decLt 1 (length g)) [
+        | yes h ↦ absurd (taken-is-canonical m g goes .0 .leads h z)
+        | no h ↦ omega (arith, taken-is-canonical m g goes .0 .some-code)
+      ]
+
+  pub zero-refused : leading g ≡ 0 → division-refusal m f g ≡ Some ZeroDivisor
+  zero-refused z = second-some (operands-refusal m f g) _ ZeroDivisor (both-none (operand-refusal m f) (operand-refusal m g) fits goes) (ap (λ (b : Bool). unless (not b) ZeroDivisor) (last-zero z))
+
+  pub divisor-taken : leading g ≢ 0 → division-refusal m f g ≡ None
+  divisor-taken h = both-none (operands-refusal m f g) _ (both-none (operand-refusal m f) (operand-refusal m g) fits goes) (ap (λ (b : Bool). unless (not b) ZeroDivisor) (no-zero (eqb (length g) 1)))
+    where
+      no-zero : (b : Bool) → (b && eqb (leading g) 0) ≡ false
+      no-zero true = ne-eqb (leading g) 0 h
+      no-zero false = refl

@@ -10,7 +10,9 @@ pub enum PolyFault {
     NotCode(usize),
     // 12: the last of several codes is 0, with its index
     LastZero(usize),
-    // 14: the buffer is shorter than the result
+    // 13: the divisor is the zero polynomial
+    ZeroDivisor,
+    // 14: a buffer is shorter than its result
     Short,
     // 15: the lengths of the factors sum to more than 129
     LongProduct,
@@ -24,6 +26,7 @@ impl PolyFault {
             PolyFault::Length => 10,
             PolyFault::NotCode(_) => 11,
             PolyFault::LastZero(_) => 12,
+            PolyFault::ZeroDivisor => 13,
             PolyFault::Short => 14,
             PolyFault::LongProduct => 15,
         }

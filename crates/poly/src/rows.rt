@@ -86,8 +86,9 @@ pub(crate) fn evaluate<R: Ring>(ring: &R, f: &[u16], x: u16) -> u16
 }
 
 // The length of a row without the zeros at its end, but at least 1.
-fn trimmed_length(row: &[u16]) -> usize
+pub(crate) fn trimmed_length(row: &[u16]) -> usize
     requires { ⌜ 0 < length (now row) ⌝ }
+    ensures some { λ r. ⌜ 0 < r ⌝ }
     ensures within { λ r. ⌜ r ≤ length (now (row .entry)) ⌝ }
     ensures form { λ r. ⌜ take r (now (row .entry)) ≡ or-zero (trimmed (now (row .entry))) ⌝ }
 {

@@ -31,6 +31,7 @@ returns-else-row-n-eq0 c =
     let long : length (take n row) ≡ n = length-take-le n row (c .loop-n .inv .1) in
     let ends : getD (take n row) (n - 1) 0 ≢ 0 = subst (λ (x : ℕ). x ≢ 0) (sym (getD-take n row (n - 1) 0 (omega arith))) (c .if-row-n-eq0 .left) in
     record {
+      some = c .loop-n .inv .0;
       within = c .loop-n .inv .1;
       form = sym (trimmed-all (take n row) (omega arith) (subst (λ (k : ℕ). getD (take n row) (k - 1) 0 ≢ 0) (sym long) ends)) ∙ ap or-zero (c .loop-n .inv .2);
     }
@@ -40,4 +41,4 @@ returns-after-loop-n c =
     let row = c .args .row .now in
     let n = c .loop-n .n in
     let long : length (take n row) ≡ n = length-take-le n row (c .loop-n .inv .1) in
-    record { within = c .loop-n .inv .1; form = sym (trimmed-one (take n row) (omega arith)) ∙ ap or-zero (c .loop-n .inv .2) }
+    record { some = c .loop-n .inv .0; within = c .loop-n .inv .1; form = sym (trimmed-one (take n row) (omega arith)) ∙ ap or-zero (c .loop-n .inv .2) }
