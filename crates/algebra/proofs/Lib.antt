@@ -34,3 +34,4 @@ pub mod Cases
 pub mod Factorisation
 -- Quotients by a polynomial
 pub mod Quotient
+pub mod Sieve

@@ -35,10 +35,10 @@ module _ {K : Type 0} (S : Scalars K) where
   minus-size v w h = size-sum-left v (neg (const S w)) (omega (arith, size-neg (const S w) 1 (const-size S w)))
 
   -- the scalars to themselves, and to the constants
-  pub same : Hom (S .ring) (S .ring)
+  unfoldable pub same : Hom (S .ring) (S .ring)
   same = record { to = λ a. a; zero-to = refl; one-to = refl; sum-to = λ a b. refl; prod-to = λ a b. refl }
 
-  pub constants : Hom (S .ring) (Polys S)
+  unfoldable pub constants : Hom (S .ring) (Polys S)
   constants = record { to = const S; zero-to = const-zero S; one-to = const-one S; sum-to = const-sum S; prod-to = const-mul S }
 
   -- the value at a scalar, and the composition with a polynomial

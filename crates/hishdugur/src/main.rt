@@ -1,6 +1,6 @@
 // Forms the generator polynomial of the CCSDS (255,223) Reed-Solomon code over the symbol field and evaluates it at its 32 roots; then,
 // over order 2, multiplies the frame check polynomial X^16 + X^12 + X^5 + 1 back from its factors, divides it by its derivative and takes
-// their greatest common divisor.
+// their greatest common divisor, and makes one splitting step on it.
 ghost use mathlib.Core.Path.{_≡_};
 ghost use Prim.Native.Nat.{min};
 ghost use lib.ListN.{length, take};
@@ -20,6 +20,7 @@ use poly::divide;
 use poly::gcd;
 use poly::product;
 use poly::value;
+use split::split;
 use std::error::AnyError;
 use work::FIRST_ROOT;
 use work::ROOTS;
@@ -30,6 +31,9 @@ use work::root;
 const LINEAR: [u16; 2] = [1, 1];
 
 const COFACTOR: [u16; 16] = [1, 1, 1, 1, 1, 0, 0, 0, 0, 0, 0, 0, 1, 1, 1, 1];
+
+// the codes of scratch of a step on a polynomial of degree 16
+const SCRATCH: usize = 512;
 
 // The first n codes of a buffer, or all of them.
 fn front(codes: &[u16], n: usize) -> &[u16]
@@ -77,7 +81,8 @@ fn frame_check(rt: &impl Print) -> Result<(), AnyError> {
     };
     let check = front(&codes, n);
     show(rt, field.order(), check)?;
-    against_derivative(rt, field, check)
+    against_derivative(rt, field, check)?;
+    split_once(rt, field, check)
 }
 
 // Divides a polynomial by its derivative, and takes their greatest common divisor.
@@ -104,6 +109,21 @@ fn against_derivative(rt: &impl Print, field: PrimeField, check: &[u16]) -> Resu
     };
     print!(rt, "with its derivative: common divisor ")?;
     show(rt, field.order(), front(&common, d))
+}
+
+// One splitting step, with the two pieces.
+fn split_once(rt: &impl Print, field: PrimeField, check: &[u16]) -> Result<(), AnyError>
+    requires { ⌜ primeRing .made field ⌝ }
+{
+    let mut scratch = [0u16; SCRATCH];
+    let mut first = [0u16; MOST_CODES];
+    let mut second = [0u16; MOST_CODES];
+    let Some((kind, left, right)) = split(&field, check, &mut scratch, &mut first, &mut second) else {
+        return Err("the step is not taken".into());
+    };
+    println!(rt, "splits as ({kind},{left},{right})")?;
+    show(rt, field.order(), front(&first, left.saturating_add(1)))?;
+    show(rt, field.order(), front(&second, right.saturating_add(1)))
 }
 
 fn run(rt: &impl Print) -> Result<(), AnyError> {

@@ -8,3 +8,5 @@ mod polynomials;
 mod quotients;
 #[cfg(test)]
 mod rings;
+#[cfg(test)]
+mod splitting;
