@@ -6,6 +6,9 @@ use field::QuotientRing;
 use field::Residues;
 use field::ResiduesRing;
 use field::Ring;
+use poly::PolyFaultDebug;
+use poly::product;
+use poly::value;
 use std::test::*;
 
 // in the quotient of the residues modulo n by t^k plus the polynomial of m
@@ -138,4 +141,19 @@ fn makings() -> Result<(), Fail> {
         }
     }
     Ok(())
+}
+
+// Over order 4 with m = 3, X^2 + X + 1 is the product of the polynomials with the codes 2 1 and 3 1, and X^2 + 2 is the square of 3 1.
+#[test]
+fn order_four() -> Result<(), Fail> {
+    let four = Quotient::new(Residues::new(2)?, 2, 3)?;
+    check_eq(four.product(2, 2), 3)?;
+    let mut codes = [9u16; 4];
+    check_eq(product(&four, &[2, 1], &[3, 1], &mut codes)?, 3)?;
+    check(codes == [1, 1, 1, 9])?;
+    check_eq(product(&four, &[3, 1], &[3, 1], &mut codes)?, 3)?;
+    check(codes == [2, 0, 1, 9])?;
+    check_eq(value(&four, &[1, 1, 1], 1)?, 1)?;
+    check_eq(value(&four, &[1, 1, 1], 2)?, 0)?;
+    check_eq(value(&four, &[1, 1, 1], 3)?, 0)
 }
