@@ -1,6 +1,6 @@
 -- Division of a polynomial by one of its divisors, and how long a divisor is.
 -- Main statements: divisor-short, divisor-leads, exact-quotient, exact-rest.
-use mathlib.Core.Path.{_≡_, refl, sym, ap, ap₂, _∙_, subst}
+use mathlib.Core.Path.{_≡_, refl, sym, ap, _∙_}
 use mathlib.Core.Logic.{_≢_}
 use mathlib.Core.List.{List}
 use Prim.Native.Nat.{ℕ, zero, suc, _≤_, _<_}

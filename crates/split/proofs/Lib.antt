@@ -26,3 +26,8 @@ pub mod Unrefused
 pub mod Shifting
 pub mod ExactDivision
 pub mod SimpleKinds
+pub mod Sieving
+pub mod PowerFilling
+pub mod Relations
+pub mod SieveKinds
+pub mod FoundRow

@@ -1,5 +1,5 @@
 -- The rows X^(j q) - X^j of the matrix, written one after the other.
--- Main statements: row-put-gap, row-put-codes, row-put-rows, row-put-past.
+-- Main statements: polynomial-same; row-put-gap, row-put-codes, row-put-rows, row-put-past.
 use mathlib.Core.Path.{_≡_, refl, sym, ap, _∙_, subst}
 use mathlib.Core.Logic.{⊎-elim, inr}
 use mathlib.Core.List.{List, map}
@@ -24,7 +24,7 @@ use Rattle.split.proofs.Frames.{written-row}
 use Rattle.split.proofs.Modulo.{gap-row}
 
 -- polynomials with the same coefficients
-polynomial-same : (n : ℕ) (c e : ℕ → ℕ) → ((i : ℕ) → i < n → c i ≡ e i) → polynomial n c ≡ polynomial n e
+pub polynomial-same : (n : ℕ) (c e : ℕ → ℕ) → ((i : ℕ) → i < n → c i ≡ e i) → polynomial n c ≡ polynomial n e
 polynomial-same n c e h = row-polynomial-is (map c (below n)) n e (record { sized = length-map (below n) c ∙ below-length n; at = λ i l. map-below-at c n i l ∙ h i l })
 
 module _ (m : RingMeaning) (L : RingLaws m) (f : List ℕ) (t : Taken m f) (q j : ℕ) (order : q ≡ m .order) (high : j < degree f)

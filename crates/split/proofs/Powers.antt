@@ -1,15 +1,13 @@
 -- A power by squaring: what each turn keeps.
 -- Main statements: power-start, power-even, power-odd, power-end.
-use mathlib.Core.Path.{_≡_, refl, sym, ap, ap₂, _∙_}
-use mathlib.Core.List.{[], _∷_}
-use Prim.Native.Nat.{ℕ, zero, suc, _+_, _*_, _/_, _%_, _<_}
+use mathlib.Core.Path.{_≡_, sym, ap, _∙_}
+use Prim.Native.Nat.{ℕ, suc, _+_, _/_, _%_, _<_}
 use native.Mathlib.Omega.{arith}
 use Rattle.algebra.specs.Ring.{Ring}
 use Rattle.algebra.specs.Powers.{pow}
-use Rattle.algebra.proofs.Laws.{one-⊗, mul-assoc}
-use Rattle.algebra.proofs.Powers.{mul-pow, pow-add, pow-suc}
+use Rattle.algebra.proofs.Powers.{mul-pow, pow-add}
 use Rattle.field.specs.Ring.{RingMeaning, RingLaws, one, power}
-use Rattle.field.proofs.Scalars.{Code, CodeRing, unit-code, product-codes, power-codes, power-code}
+use Rattle.field.proofs.Scalars.{Code, CodeRing, product-codes, power-codes, power-code}
 
 module _ (m : RingMeaning) (L : RingLaws m) where
   abbrev R : Ring (Code m L)

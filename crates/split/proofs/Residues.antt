@@ -17,14 +17,14 @@ use Rattle.algebra.proofs.Terms.{X, const, X-coef-zero, X-coef-suc}
 use Rattle.field.specs.Checks.{below}
 use Rattle.field.specs.Ring.{RingMeaning, RingLaws, one}
 use Rattle.field.specs.Polynomial.{coefficient, degree, constant, product, polynomial-power}
-use Rattle.field.specs.Quotient.{digits, from-digits, modulus, lowered, reduced-by}
+use Rattle.field.specs.Quotient.{from-digits, modulus, lowered, reduced-by}
 use Rattle.std.specs.Orderings.{When}
 use Rattle.field.specs.Rows.{IsRow, rows-suit, MultipliesModulo}
 use Rattle.field.proofs.Digits.{digits-number}
 use Rattle.field.proofs.Rows.{row-is}
 use Rattle.field.proofs.Scalars.{Code, CodeScalars, zero-code, zero-is-code}
 use Rattle.field.proofs.Polynomials.{P, Coded, code-at, poly-of, poly-of-code, poly-of-is, poly-of-injective, poly-power, poly-product-coded, product-canonical, power-canonical, one-canonical}
-use Rattle.field.proofs.Quotients.{modulus-poly, modulus-poly-is, lowered-poly, lowered-coded, lowered-length}
+use Rattle.field.proofs.Quotients.{modulus-poly-is, lowered-poly, lowered-coded, lowered-length}
 use Rattle.field.proofs.Remainders.{reduced-by-length, reduced-by-coded, reduced-by-divides, suits}
 use Rattle.split.specs.Calls.{Taken}
 use Rattle.split.specs.FixedRows.{variable, EqualModulo, RowBelow, Residue, PowerRow}

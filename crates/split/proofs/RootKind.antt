@@ -2,18 +2,18 @@
 -- Main statements: root-degree, root-long, root-within, root-written.
 use mathlib.Core.Path.{_≡_, refl, sym, ap, _∙_}
 use mathlib.Core.List.{List}
-use Prim.Native.Nat.{ℕ, _+_, _-_, _*_, _/_, _<_, _≤_}
+use Prim.Native.Nat.{ℕ, _+_, _*_, _/_, _<_, _≤_}
 use native.Mathlib.Nat.{div-eq-of-eq-mul-left, mul-div-le, div-le-self}
 use native.Mathlib.Omega.{arith}
 use Rattle.std.proofs.shelf.Bits.{mul-le}
 use lib.ListN.{length}
-use Rattle.field.specs.Ring.{RingMeaning, power}
+use Rattle.field.specs.Ring.{power}
 use Rattle.field.specs.Field.{FieldMeaning, FieldLaws}
 use Rattle.field.specs.Polynomial.{coefficient, degree, derivative, zero-polynomial}
 use Rattle.field.specs.Rows.{Written}
 use Rattle.field.proofs.Coefficients.{polynomial-at}
 use Rattle.poly.specs.Calls.{written}
-use Rattle.split.specs.Splitting.{root, SplitsInto, root-of}
+use Rattle.split.specs.Splitting.{root-of}
 use Rattle.split.specs.Calls.{Taken}
 use Rattle.split.proofs.Splittings.{IsRoot, kind-root}
 use Rattle.split.proofs.Buffers.{front-written}

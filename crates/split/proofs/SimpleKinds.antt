@@ -9,7 +9,7 @@ use Rattle.std.proofs.shelf.Lists.{getD-take}
 use Rattle.std.proofs.shelf.Edits.{length-between, getD-between}
 use Rattle.field.specs.Ring.{RingMeaning, RingLaws, one}
 use Rattle.field.specs.Field.{FieldMeaning, FieldLaws}
-use Rattle.field.specs.Polynomial.{degree, constant, zero-polynomial, value, IsCommonDivisor}
+use Rattle.field.specs.Polynomial.{degree, constant, zero-polynomial, IsCommonDivisor}
 use Rattle.field.specs.Rows.{IsRow}
 use Rattle.field.proofs.Scalars.{zero-is-code, product-zero}
 use Rattle.field.proofs.Totals.{value-none, value-more}

@@ -1,6 +1,6 @@
 -- What is found out of a polynomial and a scratch before the step begins.
 -- Main statements: refused, passed, room-decides.
-use mathlib.Core.Path.{_≡_, refl, sym, _∙_}
+use mathlib.Core.Path.{_≡_, sym, _∙_}
 use mathlib.Core.Bool.{Bool, true, false}
 use mathlib.Core.List.{List}
 use Prim.Native.Nat.{ℕ, _≤_}
@@ -10,7 +10,6 @@ use lib.ListN.{length}
 use borrow.Author.Tests.{leb-true, leb-false, clash}
 use Rattle.std.specs.Orderings.{When}
 use Rattle.std.specs.Results.{isErr}
-use Rattle.std.specs.declared.option.Option.the-variants.{Some, None}
 use Rattle.std.specs.declared.result.Result.{Result}
 use Rattle.std.specs.declared.result.Result.the-variants.{Ok, Err}
 use Rattle.field.specs.Ring.{RingMeaning}

@@ -1,5 +1,4 @@
 // The one call: a splitting step on one polynomial.
-ghost use mathlib.Core.Path.{_≡_};
 ghost use Rattle.field.specs.Field.{means};
 ghost use Rattle.split.specs.Splitting.{OneSplitting, WholeUnsplittable};
 ghost use Rattle.split.specs.Calls.{Works};

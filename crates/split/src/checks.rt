@@ -1,5 +1,4 @@
 // What the step takes.
-ghost use mathlib.Core.Path.{_≡_};
 ghost use Prim.Native.Nat.{_≤_};
 ghost use Rattle.std.specs.Orderings.{When};
 ghost use Rattle.split.specs.Splitting.{scratch-size};

@@ -1,10 +1,10 @@
 // The calls on polynomials that the step makes, none of which can be refused.
 ghost use mathlib.Core.Path.{_≡_};
 ghost use mathlib.Core.List.{List};
-ghost use Prim.Native.Nat.{ℕ, _-_, _<_, _≤_};
+ghost use Prim.Native.Nat.{ℕ, _≤_};
 ghost use lib.ListN.{length};
 ghost use Rattle.field.specs.Field.{FieldLaws, means};
-ghost use Rattle.field.specs.Polynomial.{degree, derivative, product, Canonical, Divides, IsCommonDivisor};
+ghost use Rattle.field.specs.Polynomial.{derivative, product, Canonical, Divides, IsCommonDivisor};
 ghost use Rattle.poly.specs.Calls.{written};
 ghost use Rattle.poly.specs.Faults.{most-codes};
 ghost use Rattle.split.specs.Calls.{Taken, Holds};

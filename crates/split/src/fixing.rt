@@ -1,6 +1,6 @@
 // The matrix whose dependent rows tell the fixed polynomials: row j is X^(j q) - X^j modulo f, where q is the order of the field.
 ghost use mathlib.Core.Path.{_≡_};
-ghost use Prim.Native.Nat.{ℕ, _+_, _*_, _<_, _≤_};
+ghost use Prim.Native.Nat.{ℕ, _+_, _*_, _≤_};
 ghost use lib.ListN.{length, getD};
 ghost use Rattle.field.specs.Polynomial.{degree, product};
 ghost use Rattle.field.specs.Rows.{Written};
@@ -75,7 +75,7 @@ pub(crate) fn multiply_row<R: Ring>(ring: &R, f: &[u16], factor: &[u16], row: &m
 }
 
 // Writes X^n modulo f, by squaring.
-fn power_row<R: Ring>(ring: &R, f: &[u16], n: u32, row: &mut [u16])
+pub(crate) fn power_row<R: Ring>(ring: &R, f: &[u16], n: u32, row: &mut [u16])
     requires made { ⌜ R·Ring .made (now ring) ⌝ }
     requires taken { ⌜ Taken (R·Ring .meaning (now ring)) (now f) ⌝ }
     requires sized { ⌜ length (now row) ≡ degree (now f) ⌝ }

@@ -1,13 +1,14 @@
 // The kinds of splitting, each with what it writes and answers.
 ghost use mathlib.Core.Path.{_≡_};
 ghost use mathlib.Core.List.{List};
-ghost use Prim.Native.Nat.{ℕ, _*_, _<_, _≤_};
-ghost use lib.ListN.{length, getD};
+ghost use Prim.Native.Nat.{ℕ, _+_, _*_, _<_, _≤_};
+ghost use lib.ListN.{length, getD, take};
 ghost use Rattle.field.specs.Field.{FieldLaws, means};
 ghost use Rattle.field.specs.Polynomial.{degree, zero-polynomial, derivative, Canonical, Divides};
 ghost use Rattle.poly.specs.Faults.{most-codes};
 ghost use Rattle.split.specs.Splitting.{LeastFixed, SmallestShift, Simple};
 ghost use Rattle.split.specs.Calls.{Taken, Split, Paired};
+ghost use Rattle.split.specs.FixedRows.{Residue};
 ghost use Rattle.split.specs.Sieve.{Sieves};
 use crate::divisors::cofactor;
 use crate::divisors::common_divisor;
@@ -17,6 +18,7 @@ use crate::fixing::fill_matrix;
 use crate::roots::root_codes;
 use crate::shifts::shift_divisor;
 use crate::shifts::smallest_shift;
+use crate::sieves::write_sieve;
 use field::Field;
 use poly::MOST_CODES;
 
@@ -98,6 +100,33 @@ fn take_shift<F: Field>(
     write_pair(field, 3, f, &divisor[0..n], first, second)
 }
 
+// Kind 3, where the least fixed polynomial is of degree e and given by the row `fixed`. It works in the scratch.
+fn split_by_shift<F: Field>(
+    field: &F,
+    f: &[u16],
+    e: usize,
+    fixed: &[u16],
+    codes: &mut [u16],
+    first: &mut [u16],
+    second: &mut [u16],
+) -> (u8, usize, usize)
+    requires made { ⌜ F·Ring .made (now field) ⌝ }
+    requires laws { ⌜ FieldLaws (means (F·Ring .meaning (now field)) (F·Field .extras (now field))) ⌝ }
+    requires taken { ⌜ Taken (F·Ring .meaning (now field)) (now f) ⌝ }
+    requires degree { ⌜ e < degree (now f) ⌝ }
+    requires least { ⌜ LeastFixed (F·Ring .meaning (now field)) (now f) (take (e + 1) (now fixed)) ⌝ }
+    requires residue { ⌜ Residue (F·Ring .meaning (now field)) (now f) (take (e + 1) (now fixed)) (now fixed) ⌝ }
+    requires space { ⌜ 2 * (degree (now f) * degree (now f)) ≤ length (now codes) ⌝ }
+    requires one { ⌜ most-codes ≤ length (now first) ⌝ }
+    requires two { ⌜ most-codes ≤ length (now second) ⌝ }
+    ensures split { λ r. ⌜ ((g : List ℕ) × (w : ℕ) × SmallestShift (F·Ring .meaning (now (field .entry))) (now (f .entry)) (take (e + 1) (now (fixed .entry))) w g × Paired (F·Ring .meaning (now (field .entry))) 3 (now (f .entry)) g (now (first .entry)) (now (second .entry)) r (now (first .exit)) (now (second .exit))) ⌝ }
+    ensures past { λ _. ⌜ ((k : ℕ) → 2 * (degree (now (f .entry)) * degree (now (f .entry))) ≤ k → getD (now (codes .exit)) k 0 ≡ getD (now (codes .entry)) k 0) ⌝ }
+{
+    let mut sieve = [0u16; MOST_CODES];
+    let n = write_sieve(field, f, e, fixed, codes, &mut sieve);
+    take_shift(field, f, &fixed[0..e + 1], &sieve[0..n], first, second)
+}
+
 // Kinds 3 and 4, for an f that has no repeated factor.
 fn split_simple<F: Field>(
     field: &F,
@@ -123,9 +152,9 @@ fn split_simple<F: Field>(
         Some(e) => {
             let place = (d + e) * d;
             let mut least = [0u16; MOST_CODES];
-            let fixed = &mut least[0..e + 1];
-            fixed.copy_from_slice(&codes[place..place + e + 1]);
-            take_shift(field, f, fixed, &[0], first, second)
+            let fixed = &mut least[0..d];
+            fixed.copy_from_slice(&codes[place..place + d]);
+            split_by_shift(field, f, e, fixed, codes, first, second)
         }
     }
 }

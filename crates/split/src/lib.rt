@@ -9,5 +9,6 @@ mod kinds;
 mod roots;
 mod scratch;
 mod shifts;
+mod sieves;
 
 pub use calls::split;

@@ -7,7 +7,6 @@ use Rattle.field.specs.Field.{FieldMeaning, means}
 use Rattle.field.specs.Polynomial.{IsDivision}
 use Rattle.std.specs.declared.option.Option.the-variants.{None}
 use Rattle.poly.specs.Faults.{division-refusal}
-use Rattle.poly.specs.Calls.{Buffers}
 use Rattle.poly.proofs.Operands.{canonical-is-taken, divisor-taken}
 use Rattle.split.proofs.Unrefused.{writes-two, writes-both}
 use Rattle.split.proofs.ExactDivision.{divisor-short, divisor-leads, exact-quotient, exact-short, exact-rest}

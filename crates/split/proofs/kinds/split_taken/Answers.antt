@@ -1,11 +1,11 @@
-use mathlib.Core.Path.{_≡_, refl, sym, ap, subst, _∙_}
+use mathlib.Core.Path.{_≡_, refl, sym, ap, subst}
 use mathlib.Core.List.{List}
-use Prim.Native.Nat.{ℕ, _-_, _≤_}
+use Prim.Native.Nat.{ℕ, _-_}
 use native.Mathlib.Omega.{arith}
 use lib.ListN.{length, take}
 use Rattle.field.specs.Ring.{RingMeaning}
 use Rattle.field.specs.Field.{FieldMeaning, means}
-use Rattle.field.specs.Polynomial.{zero-polynomial, derivative, Canonical, Divides, IsCommonDivisor}
+use Rattle.field.specs.Polynomial.{derivative, Canonical, Divides, IsCommonDivisor}
 use Rattle.field.proofs.Polynomials.{derivative-canonical}
 use Rattle.split.specs.Splitting.{repeated}
 use Rattle.split.specs.Calls.{Paired}

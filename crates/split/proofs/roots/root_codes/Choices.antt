@@ -1,4 +1,4 @@
-use Prim.Native.Nat.{ℕ, _*_}
+use Prim.Native.Nat.{_*_}
 use Rattle.field.specs.Ring.{power}
 use Rattle.field.specs.Polynomial.{coefficient}
 use Rattle.field.specs.Rows.{Written}

@@ -1,12 +1,7 @@
-use mathlib.Core.Path.{_≡_, ap, _∙_}
 use mathlib.Core.List.{List}
 use Prim.Native.Nat.{ℕ}
-use native.Mathlib.Omega.{arith}
-use Rattle.std.specs.declared.option.Option.{Option}
 use Rattle.field.specs.Ring.{RingMeaning}
 use Rattle.field.specs.Polynomial.{value}
-use Rattle.poly.specs.declared.fault.PolyFault.{PolyFault}
-use Rattle.poly.specs.Calls.{gives}
 use Rattle.split.proofs.Unrefused.{point-taken, gives-some}
 use Rattle.split.proofs.shifts.is_zero_at.Needs as need
 

@@ -1,7 +1,4 @@
-use mathlib.Core.Path.{_≡_, refl}
-use mathlib.Core.Bool.{Bool}
-use mathlib.Core.List.{List}
-use Prim.Native.Nat.{ℕ}
+use mathlib.Core.Path.{refl}
 use lib.Dec.{ltb}
 use Rattle.field.specs.Field.{FieldMeaning, means}
 use Rattle.split.proofs.Shifting.{shares-decided}
