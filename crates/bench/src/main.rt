@@ -1,5 +1,7 @@
 // Splits a fixed set of polynomials, and prints for each its name, the order of its field, its degree, the steps of its splitting
 // and the number of its parts. With the argument `time` it splits each several times and prints the shortest time too.
+#![tactic(auto)]
+
 ghost use Rattle.field.specs.Field.{means};
 ghost use Rattle.worksheet.specs.Meaning.{SheetMade};
 
@@ -42,7 +44,7 @@ struct Outcome {
 
 // Steps until no part is open, and answers how many steps there were.
 fn settle<F: Field>(sheet: &mut Worksheet<F>, scratch: &mut [u16]) -> u32
-    requires { SheetMade (F.Ring.made sheet.old.field) (means (F.Ring.meaning sheet.old.field) (F.Field.extras sheet.old.field)) sheet.old }
+    requires { SheetMade (F.made sheet.old.field) (means (F.meaning sheet.old.field) (F.extras sheet.old.field)) sheet.old }
 {
     let mut steps = 0u32;
     for _ in 0..MOST_STEPS {
@@ -60,7 +62,7 @@ fn split_once<F: Field>(
     field: F,
     f: &[u16],
 ) -> anyhow::Result<Outcome>
-    requires { F.Ring.made field }
+    requires { F.made field }
 {
     let mut sheet = Worksheet::new(Room::new(rt.alloc())?, field);
     let Ok(_) = sheet.enter(f) else {
@@ -84,7 +86,7 @@ fn best_of<F: Field>(
     field: F,
     f: &[u16],
 ) -> anyhow::Result<Outcome>
-    requires { F.Ring.made field }
+    requires { F.made field }
 {
     let mut best = split_once(rt, field, f)?;
     for _ in 1..runs {
@@ -104,7 +106,7 @@ fn measure<F: Field>(
     field: F,
     f: &[u16],
 ) -> anyhow::Result<()>
-    requires { F.Ring.made field }
+    requires { F.made field }
 {
     let runs = if timed { RUNS } else { 1 };
     let outcome = best_of(rt, runs, field, f)?;
@@ -128,7 +130,7 @@ fn measure_drawn<F: Field>(
     name: &str,
     field: F,
 ) -> anyhow::Result<()>
-    requires { F.Ring.made field }
+    requires { F.made field }
 {
     let mut codes = [0u16; MOST_CODES];
     draw(&field, &mut codes);
@@ -142,7 +144,7 @@ fn measure_linear<F: Field>(
     name: &str,
     field: F,
 ) -> anyhow::Result<()>
-    requires { F.Ring.made field }
+    requires { F.made field }
 {
     let Ok(codes) = linear_product(&field) else {
         return Err(anyhow!("a product is refused"));

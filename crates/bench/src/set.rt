@@ -32,7 +32,7 @@ fn next(x: u32) -> u32
 // Fills a buffer with a monic polynomial whose codes are fixed but follow no simple rule: the numbers of the recurrence that come
 // after 1, each divided by 2^16, modulo the order; at last the code one.
 pub fn draw<R: Ring>(ring: &R, codes: &mut [u16])
-    requires { R.Ring.made ring.now }
+    requires { R.made ring.now }
 {
     let mut x = 1;
     let order = ring.order();
@@ -47,7 +47,7 @@ pub fn draw<R: Ring>(ring: &R, codes: &mut [u16])
 
 // The product of X - a for the codes a from 1 to 127.
 pub fn linear_product<R: Ring>(ring: &R) -> Result<[u16; MOST_CODES], PolyFault>
-    requires { R.Ring.made ring.now }
+    requires { R.made ring.now }
 {
     let mut codes = [0u16; MOST_CODES];
     codes[0] = ONE;

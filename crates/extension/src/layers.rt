@@ -17,11 +17,11 @@ pub struct Extension<F> {
 }
 
 impl<F: Field> Ring for Extension<F> {
-    ghost meaning = { λ x. quotient_ring (F.Ring.meaning x.base) x.k x.m };
+    ghost meaning = { λ x. quotient_ring (F.meaning x.base) x.k x.m };
 
-    ghost made = { λ x. ExtensionMade (F.Ring.made x.base) (means (F.Ring.meaning x.base) (F.Field.extras x.base)) x.k x.m };
+    ghost made = { λ x. ExtensionMade (F.made x.base) (means (F.meaning x.base) (F.extras x.base)) x.k x.m };
 
-    ghost ring = { λ x m. quotient_made _ m.laws.ring x.k x.m (range_taken (means (F.Ring.meaning x.base) (F.Field.extras x.base)) x.k x.m m.taken) };
+    ghost ring = { λ x m. quotient_made _ m.laws.ring x.k x.m (range_taken (means (F.meaning x.base) (F.extras x.base)) x.k x.m m.taken) };
 
     fn order(&self) -> u32 {
         Quotient::of_parts(self.base, self.k, self.m).order()
@@ -42,8 +42,8 @@ impl<F: Field> Ring for Extension<F> {
 
 // The inverse of a code: in a field of q elements the power q - 1 of each but zero is one.
 fn inverse_code<F: Field>(x: &Extension<F>, a: u16) -> Option<u16>
-    requires { ExtensionMade (F.Ring.made x.now.base) (means (F.Ring.meaning x.now.base) (F.Field.extras x.now.base)) x.now.k x.now.m }
-    ensures { result ≡ inverse_in (quotient_ring (F.Ring.meaning x.now.base) x.now.k x.now.m) a }
+    requires { ExtensionMade (F.made x.now.base) (means (F.meaning x.now.base) (F.extras x.now.base)) x.now.k x.now.m }
+    ensures { result ≡ inverse_in (quotient_ring (F.meaning x.now.base) x.now.k x.now.m) a }
 {
     let ring = Quotient::of_parts(x.base, x.k, x.m);
     let q = ring.order();
@@ -54,7 +54,7 @@ fn inverse_code<F: Field>(x: &Extension<F>, a: u16) -> Option<u16>
 }
 
 impl<F: Field> Field for Extension<F> {
-    ghost extras = { λ x. extension_extras (means (F.Ring.meaning x.base) (F.Field.extras x.base)) x.k x.m };
+    ghost extras = { λ x. extension_extras (means (F.meaning x.base) (F.extras x.base)) x.k x.m };
 
     fn characteristic(&self) -> u32 {
         self.base.characteristic()

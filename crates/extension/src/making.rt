@@ -1,13 +1,10 @@
 // How an extension is made: its modulus is tried by the splitting method.
 ghost use Rattle.std.specs.Prelude.{◌≡◌, ◌-◌, ◌<◌, length, None, MatchBool, ◌≢◌};
-ghost use mir.Syntax.{given};
 ghost use Rattle.field.specs.Field.{FieldLaws, means};
 ghost use Rattle.field.specs.Quotient.{modulus, quotient_ring, extension_extras};
 ghost use Rattle.field.specs.Faults.{quotient_refusal};
 ghost use Rattle.split.specs.Splitting.{Splitting, whole, SplitsInto};
 ghost use Rattle.extension.specs.Extension.{Extended, ExtensionsJudged, ExtensionsAreFields};
-ghost use Rattle.extension.specs.contracts.layers.ExtensionRing.TheImpl.{ghosts as extensionRing};
-ghost use Rattle.extension.specs.contracts.layers.ExtensionField.TheImpl.{ghosts as extensionField};
 
 use crate::Extension;
 use field::{Field, FieldFault, Quotient, Ring, write_polynomial};
@@ -28,8 +25,8 @@ const SCRATCH_CODES: usize = 512;
 
 // The laws of a field come with the answers to its three questions.
 fn ask<F: Field>(field: &F)
-    requires { F.Ring.made field.now }
-    ensures { FieldLaws (means (F.Ring.meaning field.now) (F.Field.extras field.now)) }
+    requires { F.made field.now }
+    ensures { FieldLaws (means (F.meaning field.now) (F.extras field.now)) }
 {
     let _ = field.characteristic();
     let _ = field.exponent();
@@ -38,9 +35,9 @@ fn ask<F: Field>(field: &F)
 
 // Writes the power of t that has its place at the end of the row, plus the polynomial of m.
 fn write_modulus<R: Ring>(ring: &R, m: u32, row: &mut [u16])
-    requires made { R.Ring.made ring.now }
+    requires made { R.made ring.now }
     requires some { 0 < length row.old }
-    ensures { row.new ≡ modulus (R.Ring.meaning ring.now) (length row.old - 1) m }
+    ensures { row.new ≡ modulus (R.meaning ring.now) (length row.old - 1) m }
 {
     write_polynomial(ring, m, row);
     row[row.len() - 1] = ONE;
@@ -48,9 +45,9 @@ fn write_modulus<R: Ring>(ring: &R, m: u32, row: &mut [u16])
 
 // Whether the splitting method splits t^k plus the polynomial of m.
 fn modulus_splits<F: Field>(base: &F, k: usize, m: u32) -> bool
-    requires made { F.Ring.made base.now }
-    requires range { quotient_refusal (F.Ring.meaning base.now) k m ≡ None }
-    ensures { MatchBool result ((s : Splitting) × SplitsInto (means (F.Ring.meaning base.now) (F.Field.extras base.now)) (modulus (F.Ring.meaning base.now) k m) s × (s ≢ whole)) (SplitsInto (means (F.Ring.meaning base.now) (F.Field.extras base.now)) (modulus (F.Ring.meaning base.now) k m) whole) }
+    requires made { F.made base.now }
+    requires range { quotient_refusal (F.meaning base.now) k m ≡ None }
+    ensures { MatchBool result ((s : Splitting) × SplitsInto (means (F.meaning base.now) (F.extras base.now)) (modulus (F.meaning base.now) k m) s × (s ≢ whole)) (SplitsInto (means (F.meaning base.now) (F.extras base.now)) (modulus (F.meaning base.now) k m) whole) }
 {
     let mut codes = [0u16; MODULUS_CODES];
     let f = &mut codes[..k + 1];
@@ -69,8 +66,8 @@ impl<F: Field> Extension<F> {
     // b^k is at most 65,536, then with 5 unless m is below b^k, then with 6 where t^k plus the polynomial of m is a product of two
     // polynomials of smaller positive degree.
     pub fn new(base: F, k: u32, m: u32) -> Result<Extension<F>, FieldFault>
-        requires { F.Ring.made base }
-        ensures makes { Extended (means (F.Ring.meaning base) (F.Field.extras base)) k m (λ x. (extensionRing F.row F.Field (given 0) F.Ring (given 1)).made x × ((extensionRing F.row F.Field (given 0) F.Ring (given 1)).meaning x ≡ quotient_ring (F.Ring.meaning base) k m) × ((extensionField F.row F.Field (given 0) F.Ring (given 1)).extras x ≡ extension_extras (means (F.Ring.meaning base) (F.Field.extras base)) k m)) result }
+        requires { F.made base }
+        ensures makes { Extended (means (F.meaning base) (F.extras base)) k m (λ x. ⟦<Extension<F> as Ring>⟧.made x × (⟦<Extension<F> as Ring>⟧.meaning x ≡ quotient_ring (F.meaning base) k m) × (⟦<Extension<F> as Field>⟧.extras x ≡ extension_extras (means (F.meaning base) (F.extras base)) k m)) result }
         ensures judged { ExtensionsJudged }
         ensures fields { ExtensionsAreFields }
     {

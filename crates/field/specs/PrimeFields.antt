@@ -5,7 +5,7 @@ use Rattle.std.proofs.Common.{◌∙◌, mod-lt, mod-eq_of_lt, mul-one, add-one,
 use Rattle.std.proofs.Math.Nat.{mod_self, zero-mod, mod-add-mod, add-mod, pow-zero, pow-succ', div-add-mod}
 use Rattle.std.proofs.Math.Decide.{dec_le, ℕ_discrete}
 use borrow.Author.Tests.{leb-true, eqb-false, clash}
-use Rattle.algebra.proofs.Laws.{mul_assoc, mul-one as ring-mul-one, neg_unique, neg-⊗, ⊗-neg}
+use Rattle.algebra.proofs.Laws.{mul_assoc, mul_one as ring-mul-one, neg_unique, neg-⊗, ⊗-neg}
 use Rattle.field.specs.Checks.{seek}
 use Rattle.field.specs.Ring.{RingMeaning, RingLaws, one, total, multiple}
 use Rattle.field.specs.Field.{FieldLaws, Characteristic}

@@ -2,6 +2,8 @@
 //
 // An element is a code from 0 to the order less 1. Code 0 is zero and code 1 is one. Code above this crate is written for every
 // ring or every field, and knows no more of it than the traits tell.
+#![tactic(auto)]
+
 mod fault;
 mod making;
 mod modular;

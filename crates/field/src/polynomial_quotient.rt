@@ -18,16 +18,16 @@ pub struct Quotient<R> {
 
 // The order of a quotient.
 fn order_of<R: Ring>(x: &Quotient<R>) -> u32
-    requires { QuotientMade (R.Ring.made x.now.base) (R.Ring.meaning x.now.base) x.now.k x.now.m }
-    ensures { result ≡ (quotient_ring (R.Ring.meaning x.now.base) x.now.k x.now.m).order }
+    requires { QuotientMade (R.made x.now.base) (R.meaning x.now.base) x.now.k x.now.m }
+    ensures { result ≡ (quotient_ring (R.meaning x.now.base) x.now.k x.now.m).order }
 {
     capped_power(x.base.order(), u32::from(x.k))
 }
 
 // The sum of two codes, digit by digit.
 fn sum_codes<R: Ring>(x: &Quotient<R>, a: u16, b: u16) -> u16
-    requires { QuotientMade (R.Ring.made x.now.base) (R.Ring.meaning x.now.base) x.now.k x.now.m }
-    ensures { result ≡ (quotient_ring (R.Ring.meaning x.now.base) x.now.k x.now.m).sum a b }
+    requires { QuotientMade (R.made x.now.base) (R.meaning x.now.base) x.now.k x.now.m }
+    ensures { result ≡ (quotient_ring (R.meaning x.now.base) x.now.k x.now.m).sum a b }
 {
     let q = order_of(x);
     if u32::from(a) >= q || u32::from(b) >= q {
@@ -46,8 +46,8 @@ fn sum_codes<R: Ring>(x: &Quotient<R>, a: u16, b: u16) -> u16
 
 // The opposite of a code, digit by digit.
 fn opposite_code<R: Ring>(x: &Quotient<R>, a: u16) -> u16
-    requires { QuotientMade (R.Ring.made x.now.base) (R.Ring.meaning x.now.base) x.now.k x.now.m }
-    ensures { result ≡ (quotient_ring (R.Ring.meaning x.now.base) x.now.k x.now.m).opposite a }
+    requires { QuotientMade (R.made x.now.base) (R.meaning x.now.base) x.now.k x.now.m }
+    ensures { result ≡ (quotient_ring (R.meaning x.now.base) x.now.k x.now.m).opposite a }
 {
     if u32::from(a) >= order_of(x) {
         return 0;
@@ -62,8 +62,8 @@ fn opposite_code<R: Ring>(x: &Quotient<R>, a: u16) -> u16
 
 // The product of two codes: that of their rows of digits, reduced.
 fn product_codes<R: Ring>(x: &Quotient<R>, a: u16, b: u16) -> u16
-    requires { QuotientMade (R.Ring.made x.now.base) (R.Ring.meaning x.now.base) x.now.k x.now.m }
-    ensures { result ≡ (quotient_ring (R.Ring.meaning x.now.base) x.now.k x.now.m).product a b }
+    requires { QuotientMade (R.made x.now.base) (R.meaning x.now.base) x.now.k x.now.m }
+    ensures { result ≡ (quotient_ring (R.meaning x.now.base) x.now.k x.now.m).product a b }
 {
     let q = order_of(x);
     if u32::from(a) >= q || u32::from(b) >= q {
@@ -86,11 +86,11 @@ fn product_codes<R: Ring>(x: &Quotient<R>, a: u16, b: u16) -> u16
 }
 
 impl<R: Ring> Ring for Quotient<R> {
-    ghost meaning = { λ x. quotient_ring (R.Ring.meaning x.base) x.k x.m };
+    ghost meaning = { λ x. quotient_ring (R.meaning x.base) x.k x.m };
 
-    ghost made = { λ x. QuotientMade (R.Ring.made x.base) (R.Ring.meaning x.base) x.k x.m };
+    ghost made = { λ x. QuotientMade (R.made x.base) (R.meaning x.base) x.k x.m };
 
-    ghost ring = { λ x m. quotient_made _ (R.Ring.ring x.base m.base) x.k x.m m.in_range };
+    ghost ring = { λ x m. quotient_made _ (R.ring x.base m.base) x.k x.m m.in_range };
 
     fn order(&self) -> u32 {
         order_of(self)

@@ -10,8 +10,8 @@ const ONE: u16 = 1;
 // The code a to the power n, by squaring: about as many products as n has digits in base 2. A number that is no code has the power
 // 1 at 0, and 0 above.
 pub fn power_code<R: Ring>(ring: &R, a: u16, n: u32) -> u16
-    requires { R.Ring.made ring.now }
-    ensures { result ≡ power (R.Ring.meaning ring.now) a n }
+    requires { R.made ring.now }
+    ensures { result ≡ power (R.meaning ring.now) a n }
 {
     let mut result = ONE;
     let mut base = a;

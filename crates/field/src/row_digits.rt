@@ -35,8 +35,8 @@ pub(crate) fn write_digits(b: u32, x: u32, row: &mut [u16])
 
 // Writes the digits of x in the base that a ring's order is, the lowest first: the coefficients of the polynomial of x.
 pub fn write_polynomial<R: Ring>(ring: &R, x: u32, row: &mut [u16])
-    requires { R.Ring.made ring.now }
-    ensures { row.new ≡ digits (R.Ring.meaning ring.now).order (length row.old) x }
+    requires { R.made ring.now }
+    ensures { row.new ≡ digits (R.meaning ring.now).order (length row.old) x }
 {
     write_digits(ring.order(), x, row);
 }
@@ -56,9 +56,9 @@ pub(crate) fn number_of(b: u32, row: &[u16]) -> u16
 
 // Adds a row to another, code by code.
 pub(crate) fn add_row<R: Ring>(ring: &R, right: &[u16], row: &mut [u16])
-    requires made { R.Ring.made ring.now }
+    requires made { R.made ring.now }
     requires right { length right.now ≡ length row.old }
-    ensures { IsRow row.new (length row.old) (λ i. (R.Ring.meaning ring.now).sum (slice_index row.old i) (slice_index right.now i)) }
+    ensures { IsRow row.new (length row.old) (λ i. (R.meaning ring.now).sum (slice_index row.old i) (slice_index right.now i)) }
 {
     for i in (0..row.len()).rev() {
         row[i] = ring.sum(row[i], right[i]);
@@ -67,8 +67,8 @@ pub(crate) fn add_row<R: Ring>(ring: &R, right: &[u16], row: &mut [u16])
 
 // Puts the opposite of each code in its place.
 pub(crate) fn oppose_row<R: Ring>(ring: &R, row: &mut [u16])
-    requires { R.Ring.made ring.now }
-    ensures { IsRow row.new (length row.old) (λ i. (R.Ring.meaning ring.now).opposite (slice_index row.old i)) }
+    requires { R.made ring.now }
+    ensures { IsRow row.new (length row.old) (λ i. (R.meaning ring.now).opposite (slice_index row.old i)) }
 {
     for i in (0..row.len()).rev() {
         row[i] = ring.opposite(row[i]);

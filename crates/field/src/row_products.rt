@@ -8,11 +8,11 @@ use crate::Ring;
 
 // Moves the row up by one place, reduces it by the monic polynomial with the lower codes `lower`, and adds a times `right`.
 fn step_row<R: Ring>(ring: &R, lower: &[u16], a: u16, right: &[u16], row: &mut [u16])
-    requires made { R.Ring.made ring.now }
+    requires made { R.made ring.now }
     requires some { 0 < length row.old }
     requires modulus { length lower.now ≡ length row.old }
     requires factor { length right.now ≡ length row.old }
-    ensures { IsRow row.new (length row.old) (stepped (R.Ring.meaning ring.now) lower.now a right.now row.old) }
+    ensures { IsRow row.new (length row.old) (stepped (R.meaning ring.now) lower.now a right.now row.old) }
 {
     let top = row[row.len() - 1];
     for i in (0..row.len()).rev() {
@@ -32,9 +32,9 @@ pub(crate) fn multiply_rows<R: Ring>(
     right: &[u16],
     row: &mut [u16],
 )
-    requires made { R.Ring.made ring.now }
-    requires suits { rows_suit (R.Ring.meaning ring.now) lower.now left.now right.now row.old ≡ true }
-    ensures { row.new ≡ reduced_by (R.Ring.meaning ring.now) lower.now (product (R.Ring.meaning ring.now) left.now right.now) }
+    requires made { R.made ring.now }
+    requires suits { rows_suit (R.meaning ring.now) lower.now left.now right.now row.old ≡ true }
+    ensures { row.new ≡ reduced_by (R.meaning ring.now) lower.now (product (R.meaning ring.now) left.now right.now) }
 {
     row.fill(0);
     for i in (0..left.len()).rev() {
@@ -56,8 +56,8 @@ fn all_below(b: u32, row: &[u16]) -> bool
 
 // Whether the four rows have the same positive length, and the first three have codes only.
 fn can_multiply<R: Ring>(ring: &R, lower: &[u16], left: &[u16], right: &[u16], row: &[u16]) -> bool
-    requires { R.Ring.made ring.now }
-    ensures { result ≡ rows_suit (R.Ring.meaning ring.now) lower.now left.now right.now row.now }
+    requires { R.made ring.now }
+    ensures { result ≡ rows_suit (R.meaning ring.now) lower.now left.now right.now row.now }
 {
     let d = row.len();
     if d == 0 || lower.len() != d || left.len() != d || right.len() != d {
@@ -77,8 +77,8 @@ pub fn multiply_modulo<R: Ring>(
     right: &[u16],
     row: &mut [u16],
 ) -> bool
-    requires { R.Ring.made ring.now }
-    ensures { MultipliesModulo (R.Ring.meaning ring.now) lower.now left.now right.now row.old result row.new }
+    requires { R.made ring.now }
+    ensures { MultipliesModulo (R.meaning ring.now) lower.now left.now right.now row.old result row.new }
 {
     if !can_multiply(ring, lower, left, right, row) {
         return false;

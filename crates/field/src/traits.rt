@@ -35,19 +35,19 @@ pub trait Field: Ring {
 
     // the smallest positive count of ones whose sum is zero
     fn characteristic(&self) -> u32
-        requires { Self.Ring.made self.now }
+        requires { Self.made self.now }
         ensures value { result ≡ (extras self.now).characteristic }
-        ensures laws { Characteristic (Self.Ring.meaning self.now) result };
+        ensures laws { Characteristic (Self.meaning self.now) result };
 
     // the power of the characteristic that the order is
     fn exponent(&self) -> u32
-        requires { Self.Ring.made self.now }
+        requires { Self.made self.now }
         ensures value { result ≡ (extras self.now).exponent }
-        ensures laws { Exponent (Self.Ring.meaning self.now) (extras self.now).characteristic result };
+        ensures laws { Exponent (Self.meaning self.now) (extras self.now).characteristic result };
 
     // the code whose product with a is one; none for 0 and for what is no code
     fn inverse(&self, a: u16) -> Option<u16>
-        requires { Self.Ring.made self.now }
+        requires { Self.made self.now }
         ensures value { result ≡ (extras self.now).inverse a }
-        ensures laws { Inverses (Self.Ring.meaning self.now) (extras self.now).inverse };
+        ensures laws { Inverses (Self.meaning self.now) (extras self.now).inverse };
 }

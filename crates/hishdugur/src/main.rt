@@ -1,8 +1,9 @@
 // Forms the generator polynomial of the CCSDS (255,223) Reed-Solomon code over the symbol field and evaluates it at its 32 roots; then,
 // over order 2, multiplies the frame check polynomial X^16 + X^12 + X^5 + 1 back from its factors, divides it by its derivative and takes
 // their greatest common divisor, and makes one splitting step on it.
+#![tactic(auto)]
+
 ghost use Rattle.std.specs.Prelude.{◌≡◌, min, length, take};
-ghost use Rattle.field.specs.contracts.primes.PrimeFieldRing.TheImpl.{ghosts as primeRing};
 
 mod work;
 
@@ -72,7 +73,7 @@ fn frame_check(rt: &impl Print) -> anyhow::Result<()> {
 
 // Divides a polynomial by its derivative, and takes their greatest common divisor.
 fn against_derivative(rt: &impl Print, field: PrimeField, check: &[u16]) -> anyhow::Result<()>
-    requires { primeRing.made field }
+    requires { ⟦<PrimeField as Ring>⟧.made field }
 {
     let mut slope = [0u16; MOST_CODES];
     let Ok(n) = derivative(&field, check, &mut slope) else {
@@ -98,7 +99,7 @@ fn against_derivative(rt: &impl Print, field: PrimeField, check: &[u16]) -> anyh
 
 // One splitting step, with the two pieces.
 fn split_once(rt: &impl Print, field: PrimeField, check: &[u16]) -> anyhow::Result<()>
-    requires { primeRing.made field }
+    requires { ⟦<PrimeField as Ring>⟧.made field }
 {
     let mut scratch = [0u16; SCRATCH];
     let mut first = [0u16; MOST_CODES];

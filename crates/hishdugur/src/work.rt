@@ -18,8 +18,8 @@ pub const ROOTS: u32 = 32;
 
 // a to the power n.
 fn raise<R: Ring>(ring: &R, a: u16, n: u32) -> u16
-    requires { R.Ring.made ring.now }
-    ensures { result ≡ power (R.Ring.meaning ring.now) a n }
+    requires { R.made ring.now }
+    ensures { result ≡ power (R.meaning ring.now) a n }
 {
     let mut result = ONE;
     for _ in 0..n {
@@ -30,17 +30,17 @@ fn raise<R: Ring>(ring: &R, a: u16, n: u32) -> u16
 
 // (α^11)^i.
 pub fn root<R: Ring>(ring: &R, i: u32) -> u16
-    requires { R.Ring.made ring.now }
-    ensures { result ≡ root_at (R.Ring.meaning ring.now) i }
+    requires { R.made ring.now }
+    ensures { result ≡ root_at (R.meaning ring.now) i }
 {
     raise(ring, raise(ring, ALPHA, STEP), i)
 }
 
 // The product of X - (α^11)^i for i from 112 to 143, from index 0 on; its length.
 pub fn generator<R: Ring>(ring: &R, out: &mut [u16; MOST_CODES]) -> Result<usize, PolyFault>
-    requires { R.Ring.made ring.now }
+    requires { R.made ring.now }
     ensures within { IfOk result (λ n. n ≤ 128) }
-    ensures product { IfOk result (λ n. take n out.new ≡ generator_polynomial (R.Ring.meaning ring.now)) }
+    ensures product { IfOk result (λ n. take n out.new ≡ generator_polynomial (R.meaning ring.now)) }
 {
     out[0] = ONE;
     let mut n = 1;

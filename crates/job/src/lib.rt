@@ -1,4 +1,6 @@
 // Jobs: bytes that name a field and polynomials over it, and the listing of their factors.
+#![tactic(auto)]
+
 mod fault;
 mod listing;
 mod reader;

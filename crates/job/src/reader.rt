@@ -1,6 +1,6 @@
 // The reading of a job's bytes, each count, kind and length judged as soon as it is read, each record when all its bytes are there.
 ghost use Rattle.std.specs.Prelude.{◌≡◌, ◌+◌, ◌*◌, ◌<◌, ◌≤◌, length, take, IfOk, Ok, Err, OnOk};
-ghost use Rattle.job.specs.Reading.{byte as byte_at, word as word_at, words as words-at, given as given_to, judged as judged-at, end, ended, at_end};
+ghost use Rattle.job.specs.Reading.{byte as byte_at, word as word_at, words as words_at, given as given_to, judged as judged_at, end, ended, at_end};
 ghost use Rattle.job.specs.Reader.{bytes_of, Within, Moved, extension_at, polynomial_at};
 
 use crate::JobFault;
@@ -64,7 +64,7 @@ impl Reader<'_> {
     // The next byte, a count, kind or length: refused with 41 unless it is one of low to high.
     pub(crate) fn judged(&mut self, low: u8, high: u8) -> Result<u8, JobFault>
         requires { Within self.old }
-        ensures value { result ≡ judged-at Err (bytes_of self.old) self.old.at low high (Ok (byte_at (bytes_of self.old) self.old.at)) }
+        ensures value { result ≡ judged_at Err (bytes_of self.old) self.old.at low high (Ok (byte_at (bytes_of self.old) self.old.at)) }
         ensures moved { OnOk result (Moved self.old 1 self.new) }
     {
         self.need(1)?;
@@ -79,7 +79,7 @@ impl Reader<'_> {
     // Fills a row with the numbers in the next bytes, which are there.
     fn words(&mut self, row: &mut [u16])
         requires { self.old.at + 2 * length row.old ≤ length (bytes_of self.old) }
-        ensures value { row.new ≡ words-at (bytes_of self.old) self.old.at (length row.old) }
+        ensures value { row.new ≡ words_at (bytes_of self.old) self.old.at (length row.old) }
         ensures moved { Moved self.old (2 * length row.old) self.new }
     {
         for code in row.iter_mut() {
@@ -117,7 +117,7 @@ impl Reader<'_> {
     ) -> Result<usize, JobFault>
         requires { Within self.old }
         ensures value { result ≡ polynomial_at (bytes_of self.old) self.old.at }
-        ensures codes { IfOk result (λ n. take n codes.new ≡ words-at (bytes_of self.old) (self.old.at + 1) n) }
+        ensures codes { IfOk result (λ n. take n codes.new ≡ words_at (bytes_of self.old) (self.old.at + 1) n) }
         ensures moved { IfOk result (λ n. Moved self.old (1 + 2 * n) self.new) }
     {
         let n = usize::from(self.judged(1, MOST_JOB_CODES as u8)?);

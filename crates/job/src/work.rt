@@ -1,11 +1,8 @@
 // The working of a job: the field is made level by level, the polynomials are entered into a worksheet over it, and this is stepped
 // until no part is open.
 ghost use Rattle.std.specs.Prelude.{◌≡◌, ℕ, suc, ◌≤◌, replicate, IfOk, OnOk};
-ghost use mir.Syntax.{given};
 ghost use Rattle.field.specs.Field.{means};
 ghost use Rattle.field.specs.Quotient.{quotient_ring, extension_extras, extension_field};
-ghost use Rattle.extension.specs.contracts.layers.ExtensionRing.TheImpl.{ghosts as extensionRing};
-ghost use Rattle.extension.specs.contracts.layers.ExtensionField.TheImpl.{ghosts as extensionField};
 ghost use Rattle.worksheet.specs.Meaning.{sheet_of, RoomMade, SheetMade};
 ghost use Rattle.job.specs.Reading.{at_end};
 ghost use Rattle.job.specs.Reader.{bytes_of, Within, levels_left, next_height, next_number, polynomials_left};
@@ -68,11 +65,11 @@ fn start(room: Room, bytes: &[u8]) -> Result<Listing, JobFault>
 
 // The listing over a field with some more levels, at most two.
 fn climb<F: Field>(mut reader: Reader, base: F, more: u8, room: Room) -> Result<Listing, JobFault>
-    requires made { F.Ring.made base }
+    requires made { F.made base }
     requires within { Within reader }
     requires few { more ≤ 2 }
     requires space { RoomMade room }
-    ensures { Climbs (means (F.Ring.meaning base) (F.Field.extras base)) (levels_left reader.entry more) (answer_of result) }
+    ensures { Climbs (means (F.meaning base) (F.extras base)) (levels_left reader.entry more) (answer_of result) }
 {
     if more == 0 {
         return work(reader, base, room);
@@ -87,10 +84,10 @@ fn climb<F: Field>(mut reader: Reader, base: F, more: u8, room: Room) -> Result<
 
 // The next level on a field.
 fn extend<F: Field>(reader: &mut Reader, base: F) -> Result<Extension<F>, JobFault>
-    requires made { F.Ring.made base }
+    requires made { F.made base }
     requires within { Within reader.old }
-    ensures leads { (n : ℕ) → Leads (Climbs (means (F.Ring.meaning base) (F.Field.extras base)) (levels_left reader.old (suc n))) (Climbs (extension_field (means (F.Ring.meaning base) (F.Field.extras base)) (next_height reader.old) (next_number reader.old)) (levels_left reader.new n)) result }
-    ensures makes { IfOk result (λ x. (extensionRing F.row F.Field (given 0) F.Ring (given 1)).made x × ((extensionRing F.row F.Field (given 0) F.Ring (given 1)).meaning x ≡ quotient_ring (F.Ring.meaning base) (next_height reader.old) (next_number reader.old)) × ((extensionField F.row F.Field (given 0) F.Ring (given 1)).extras x ≡ extension_extras (means (F.Ring.meaning base) (F.Field.extras base)) (next_height reader.old) (next_number reader.old))) }
+    ensures leads { (n : ℕ) → Leads (Climbs (means (F.meaning base) (F.extras base)) (levels_left reader.old (suc n))) (Climbs (extension_field (means (F.meaning base) (F.extras base)) (next_height reader.old) (next_number reader.old)) (levels_left reader.new n)) result }
+    ensures makes { IfOk result (λ x. ⟦<Extension<F> as Ring>⟧.made x × (⟦<Extension<F> as Ring>⟧.meaning x ≡ quotient_ring (F.meaning base) (next_height reader.old) (next_number reader.old)) × (⟦<Extension<F> as Field>⟧.extras x ≡ extension_extras (means (F.meaning base) (F.extras base)) (next_height reader.old) (next_number reader.old))) }
     ensures within { OnOk result (Within reader.new) }
 {
     let at = reader.at;
@@ -120,10 +117,10 @@ fn placed<T>(answer: Result<T, SheetFault>, at: usize) -> Result<T, RefusedRecor
 
 // The listing of the polynomials over a field.
 fn work<F: Field>(mut reader: Reader, field: F, room: Room) -> Result<Listing, JobFault>
-    requires made { F.Ring.made field }
+    requires made { F.made field }
     requires within { Within reader }
     requires space { RoomMade room }
-    ensures { Climbs (means (F.Ring.meaning field) (F.Field.extras field)) (levels_left reader.entry 0) (answer_of result) }
+    ensures { Climbs (means (F.meaning field) (F.extras field)) (levels_left reader.entry 0) (answer_of result) }
 {
     let count = reader.judged(0, MOST_POLYNOMIALS)?;
     let mut sheet = Worksheet::new(room, field);
@@ -146,10 +143,10 @@ fn enter_all<F: Field>(
     sheet: &mut Worksheet<F>,
     count: u8,
 ) -> Result<(), JobFault>
-    requires made { SheetMade (F.Ring.made sheet.old.field) (means (F.Ring.meaning sheet.old.field) (F.Field.extras sheet.old.field)) sheet.old }
+    requires made { SheetMade (F.made sheet.old.field) (means (F.meaning sheet.old.field) (F.extras sheet.old.field)) sheet.old }
     requires within { Within reader.old }
-    ensures leads { Leads (Works (means (F.Ring.meaning sheet.old.field) (F.Field.extras sheet.old.field)) (sheet_of sheet.old) (polynomials_left reader.old count)) (Works (means (F.Ring.meaning sheet.old.field) (F.Field.extras sheet.old.field)) (sheet_of sheet.new) (at_end (bytes_of reader.new) reader.new.at)) result }
-    ensures made { SheetMade (F.Ring.made sheet.new.field) (means (F.Ring.meaning sheet.new.field) (F.Field.extras sheet.new.field)) sheet.new }
+    ensures leads { Leads (Works (means (F.meaning sheet.old.field) (F.extras sheet.old.field)) (sheet_of sheet.old) (polynomials_left reader.old count)) (Works (means (F.meaning sheet.old.field) (F.extras sheet.old.field)) (sheet_of sheet.new) (at_end (bytes_of reader.new) reader.new.at)) result }
+    ensures made { SheetMade (F.made sheet.new.field) (means (F.meaning sheet.new.field) (F.extras sheet.new.field)) sheet.new }
     ensures same { sheet.new.field ≡ sheet.old.field }
     ensures within { OnOk result (Within reader.new) }
 {
@@ -161,10 +158,10 @@ fn enter_all<F: Field>(
 
 // Enters the next polynomial.
 fn enter_next<F: Field>(reader: &mut Reader, sheet: &mut Worksheet<F>) -> Result<(), JobFault>
-    requires made { SheetMade (F.Ring.made sheet.old.field) (means (F.Ring.meaning sheet.old.field) (F.Field.extras sheet.old.field)) sheet.old }
+    requires made { SheetMade (F.made sheet.old.field) (means (F.meaning sheet.old.field) (F.extras sheet.old.field)) sheet.old }
     requires within { Within reader.old }
-    ensures leads { (n : ℕ) → Leads (Works (means (F.Ring.meaning sheet.old.field) (F.Field.extras sheet.old.field)) (sheet_of sheet.old) (polynomials_left reader.old (suc n))) (Works (means (F.Ring.meaning sheet.old.field) (F.Field.extras sheet.old.field)) (sheet_of sheet.new) (polynomials_left reader.new n)) result }
-    ensures made { SheetMade (F.Ring.made sheet.new.field) (means (F.Ring.meaning sheet.new.field) (F.Field.extras sheet.new.field)) sheet.new }
+    ensures leads { (n : ℕ) → Leads (Works (means (F.meaning sheet.old.field) (F.extras sheet.old.field)) (sheet_of sheet.old) (polynomials_left reader.old (suc n))) (Works (means (F.meaning sheet.old.field) (F.extras sheet.old.field)) (sheet_of sheet.new) (polynomials_left reader.new n)) result }
+    ensures made { SheetMade (F.made sheet.new.field) (means (F.meaning sheet.new.field) (F.extras sheet.new.field)) sheet.new }
     ensures same { sheet.new.field ≡ sheet.old.field }
     ensures within { OnOk result (Within reader.new) }
 {
@@ -177,9 +174,9 @@ fn enter_next<F: Field>(reader: &mut Reader, sheet: &mut Worksheet<F>) -> Result
 
 // Steps until no part is open, and counts the steps.
 fn settle<F: Field>(sheet: &mut Worksheet<F>) -> u32
-    requires { SheetMade (F.Ring.made sheet.old.field) (means (F.Ring.meaning sheet.old.field) (F.Field.extras sheet.old.field)) sheet.old }
-    ensures settles { Settles (means (F.Ring.meaning sheet.old.field) (F.Field.extras sheet.old.field)) (sheet_of sheet.old) (replicate most_scratch 0) result (sheet_of sheet.new) }
-    ensures made { SheetMade (F.Ring.made sheet.new.field) (means (F.Ring.meaning sheet.new.field) (F.Field.extras sheet.new.field)) sheet.new }
+    requires { SheetMade (F.made sheet.old.field) (means (F.meaning sheet.old.field) (F.extras sheet.old.field)) sheet.old }
+    ensures settles { Settles (means (F.meaning sheet.old.field) (F.extras sheet.old.field)) (sheet_of sheet.old) (replicate most_scratch 0) result (sheet_of sheet.new) }
+    ensures made { SheetMade (F.made sheet.new.field) (means (F.meaning sheet.new.field) (F.extras sheet.new.field)) sheet.new }
     ensures same { sheet.new.field ≡ sheet.old.field }
 {
     let mut scratch = [0u16; MOST_SCRATCH];

@@ -1,4 +1,6 @@
 // Reads a job from standard input and prints its listing, or the line of its refusal.
+#![tactic(auto)]
+
 use job::{MOST_JOB_BYTES, run};
 use std::io::Read;
 use std::{env, io};

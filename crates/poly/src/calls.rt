@@ -9,8 +9,8 @@ use field::{Field, Ring};
 
 // The sum of f and g.
 pub fn sum<R: Ring>(ring: &R, f: &[u16], g: &[u16], out: &mut [u16]) -> Result<usize, PolyFault>
-    requires { R.Ring.made ring.now }
-    ensures { Sums (R.Ring.meaning ring.now) f.now g.now out.old result out.new }
+    requires { R.made ring.now }
+    ensures { Sums (R.meaning ring.now) f.now g.now out.old result out.new }
 {
     check(ring, f)?;
     check(ring, g)?;
@@ -22,8 +22,8 @@ pub fn sum<R: Ring>(ring: &R, f: &[u16], g: &[u16], out: &mut [u16]) -> Result<u
 
 // The product of f and g.
 pub fn product<R: Ring>(ring: &R, f: &[u16], g: &[u16], out: &mut [u16]) -> Result<usize, PolyFault>
-    requires { R.Ring.made ring.now }
-    ensures { Multiplies (R.Ring.meaning ring.now) f.now g.now out.old result out.new }
+    requires { R.made ring.now }
+    ensures { Multiplies (R.meaning ring.now) f.now g.now out.old result out.new }
 {
     check(ring, f)?;
     check(ring, g)?;
@@ -38,8 +38,8 @@ pub fn product<R: Ring>(ring: &R, f: &[u16], g: &[u16], out: &mut [u16]) -> Resu
 
 // The derivative of f.
 pub fn derivative<R: Ring>(ring: &R, f: &[u16], out: &mut [u16]) -> Result<usize, PolyFault>
-    requires { R.Ring.made ring.now }
-    ensures { Derives (R.Ring.meaning ring.now) f.now out.old result out.new }
+    requires { R.made ring.now }
+    ensures { Derives (R.meaning ring.now) f.now out.old result out.new }
 {
     check(ring, f)?;
     let mut codes = [0u16; MOST_CODES];
@@ -50,8 +50,8 @@ pub fn derivative<R: Ring>(ring: &R, f: &[u16], out: &mut [u16]) -> Result<usize
 
 // The value of f at x.
 pub fn value<R: Ring>(ring: &R, f: &[u16], x: u16) -> Result<u16, PolyFault>
-    requires { R.Ring.made ring.now }
-    ensures { result ≡ evaluates (R.Ring.meaning ring.now) f.now x }
+    requires { R.made ring.now }
+    ensures { result ≡ evaluates (R.meaning ring.now) f.now x }
 {
     check(ring, f)?;
     if u32::from(x) >= ring.order() {
@@ -68,8 +68,8 @@ pub fn divide<F: Field>(
     quotient: &mut [u16],
     remainder: &mut [u16],
 ) -> Result<(usize, usize), PolyFault>
-    requires { F.Ring.made field.now }
-    ensures result { Division (F.Ring.meaning field.now) f.now g.now (record { quotient = quotient.entry.now; remainder = remainder.old }) result (record { quotient = quotient.exit.now; remainder = remainder.new }) }
+    requires { F.made field.now }
+    ensures result { Division (F.meaning field.now) f.now g.now (record { quotient = quotient.entry.now; remainder = remainder.old }) result (record { quotient = quotient.exit.now; remainder = remainder.new }) }
     ensures once { OneDivision }
 {
     check(field, f)?;
@@ -88,8 +88,8 @@ pub fn divide<F: Field>(
 
 // The greatest common divisor of f and g, over a field: monic, and zero for two zero polynomials.
 pub fn gcd<F: Field>(field: &F, f: &[u16], g: &[u16], out: &mut [u16]) -> Result<usize, PolyFault>
-    requires { F.Ring.made field.now }
-    ensures result { CommonDivisor (F.Ring.meaning field.now) f.now g.now out.old result out.new }
+    requires { F.made field.now }
+    ensures result { CommonDivisor (F.meaning field.now) f.now g.now out.old result out.new }
     ensures once { OneCommonDivisor }
 {
     check(field, f)?;

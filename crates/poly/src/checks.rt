@@ -7,8 +7,8 @@ use field::Ring;
 
 // Whether f is a polynomial over the ring: refused with 10, 11 or 12 where it is not.
 pub fn check<R: Ring>(ring: &R, f: &[u16]) -> Result<(), PolyFault>
-    requires { R.Ring.made ring.now }
-    ensures { Passes (operand_refusal (R.Ring.meaning ring.now) f.now) result }
+    requires { R.made ring.now }
+    ensures { Passes (operand_refusal (R.meaning ring.now) f.now) result }
 {
     if f.is_empty() || f.len() > MOST_CODES {
         return Err(PolyFault::Length);

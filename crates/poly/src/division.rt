@@ -18,12 +18,12 @@ pub(crate) fn divide_row<R: Ring>(
     row: &mut [u16],
     quotient: &mut [u16],
 )
-    requires made { R.Ring.made ring.now }
-    requires divisor { Canonical (R.Ring.meaning ring.now) g.now }
-    requires inverse { (R.Ring.meaning ring.now).product (leading g.now) u ≡ one (R.Ring.meaning ring.now) }
-    requires codes { (i : ℕ) → coefficient row.old i < (R.Ring.meaning ring.now).order }
+    requires made { R.made ring.now }
+    requires divisor { Canonical (R.meaning ring.now) g.now }
+    requires inverse { (R.meaning ring.now).product (leading g.now) u ≡ one (R.meaning ring.now) }
+    requires codes { (i : ℕ) → coefficient row.old i < (R.meaning ring.now).order }
     requires zeros { IsRow quotient.old (length row.old) (λ _. 0) }
-    ensures { IsDivision (R.Ring.meaning ring.now) (or_zero (trimmed row.old)) g.now (or_zero (trimmed quotient.new)) (or_zero (trimmed row.new)) }
+    ensures { IsDivision (R.meaning ring.now) (or_zero (trimmed row.old)) g.now (or_zero (trimmed quotient.new)) (or_zero (trimmed row.new)) }
 {
     let top = g.len() - 1;
     for i in (top..row.len()).rev() {
@@ -37,12 +37,12 @@ pub(crate) fn divide_row<R: Ring>(
 
 // Divides the codes of a row by g, whose last code has the inverse u: the row becomes that of the remainder.
 fn reduce<R: Ring>(ring: &R, g: &[u16], u: u16, row: &mut [u16])
-    requires made { R.Ring.made ring.now }
-    requires divisor { Canonical (R.Ring.meaning ring.now) g.now }
-    requires inverse { (R.Ring.meaning ring.now).product (leading g.now) u ≡ one (R.Ring.meaning ring.now) }
-    requires codes { (i : ℕ) → coefficient row.old i < (R.Ring.meaning ring.now).order }
+    requires made { R.made ring.now }
+    requires divisor { Canonical (R.meaning ring.now) g.now }
+    requires inverse { (R.meaning ring.now).product (leading g.now) u ≡ one (R.meaning ring.now) }
+    requires codes { (i : ℕ) → coefficient row.old i < (R.meaning ring.now).order }
     requires short { length row.old ≤ most_codes }
-    ensures { (q : List ℕ) × IsDivision (R.Ring.meaning ring.now) (or_zero (trimmed row.old)) g.now q (or_zero (trimmed row.new)) }
+    ensures { (q : List ℕ) × IsDivision (R.meaning ring.now) (or_zero (trimmed row.old)) g.now q (or_zero (trimmed row.new)) }
 {
     let mut quotients = [0u16; MOST_CODES];
     let quotient = &mut quotients[..row.len()];
@@ -51,8 +51,8 @@ fn reduce<R: Ring>(ring: &R, g: &[u16], u: u16, row: &mut [u16])
 
 // Multiplies each code of a row by u.
 fn scale<R: Ring>(ring: &R, u: u16, row: &mut [u16])
-    requires { R.Ring.made ring.now }
-    ensures { IsRow row.new (length row.old) (λ i. (R.Ring.meaning ring.now).product u (slice_index row.old i)) }
+    requires { R.made ring.now }
+    ensures { IsRow row.new (length row.old) (λ i. (R.meaning ring.now).product u (slice_index row.old i)) }
 {
     for c in row.iter_mut() {
         *c = ring.product(u, *c);
@@ -61,10 +61,10 @@ fn scale<R: Ring>(ring: &R, u: u16, row: &mut [u16])
 
 // Makes a row monic, unless it is zeros only: then it has the greatest common divisor of what it was and zero.
 fn make_monic<F: Field>(field: &F, row: &mut [u16])
-    requires made { F.Ring.made field.now }
+    requires made { F.made field.now }
     requires some { 0 < length row.old }
-    requires codes { (i : ℕ) → coefficient row.old i < (F.Ring.meaning field.now).order }
-    ensures { IsCommonDivisor (F.Ring.meaning field.now) (or_zero (trimmed row.old)) zero_polynomial (or_zero (trimmed row.new)) }
+    requires codes { (i : ℕ) → coefficient row.old i < (F.meaning field.now).order }
+    ensures { IsCommonDivisor (F.meaning field.now) (or_zero (trimmed row.old)) zero_polynomial (or_zero (trimmed row.new)) }
 {
     let n = trimmed_length(row);
     if let Some(u) = field.inverse(row[n - 1]) {
@@ -88,11 +88,11 @@ pub(crate) fn common_divisor<F: Field>(
     left: [u16; MOST_CODES],
     right: [u16; MOST_CODES],
 ) -> [u16; MOST_CODES]
-    requires made { F.Ring.made field.now }
-    requires first { (i : ℕ) → coefficient left i < (F.Ring.meaning field.now).order }
-    requires second { (i : ℕ) → coefficient right i < (F.Ring.meaning field.now).order }
+    requires made { F.made field.now }
+    requires first { (i : ℕ) → coefficient left i < (F.meaning field.now).order }
+    requires second { (i : ℕ) → coefficient right i < (F.meaning field.now).order }
     ensures size { length result ≡ most_codes }
-    ensures divisor { IsCommonDivisor (F.Ring.meaning field.now) (or_zero (trimmed left)) (or_zero (trimmed right)) (or_zero (trimmed result)) }
+    ensures divisor { IsCommonDivisor (F.meaning field.now) (or_zero (trimmed left)) (or_zero (trimmed right)) (or_zero (trimmed result)) }
 {
     let mut dividend = left;
     let mut divisor = right;

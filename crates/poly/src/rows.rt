@@ -16,8 +16,8 @@ fn code_at(f: &[u16], i: usize) -> u16
 
 // Writes the codes of the sum of f and g into a row, as many as it has.
 pub(crate) fn add_codes<R: Ring>(ring: &R, f: &[u16], g: &[u16], row: &mut [u16])
-    requires { R.Ring.made ring.now }
-    ensures { IsRow row.new (length row.old) (λ i. (R.Ring.meaning ring.now).sum (coefficient f.now i) (coefficient g.now i)) }
+    requires { R.made ring.now }
+    ensures { IsRow row.new (length row.old) (λ i. (R.meaning ring.now).sum (coefficient f.now i) (coefficient g.now i)) }
 {
     for (i, c) in row.iter_mut().enumerate() {
         *c = ring.sum(code_at(f, i), code_at(g, i));
@@ -26,9 +26,9 @@ pub(crate) fn add_codes<R: Ring>(ring: &R, f: &[u16], g: &[u16], row: &mut [u16]
 
 // Adds t times g to the codes of a row, from a place on.
 pub(crate) fn add_multiple<R: Ring>(ring: &R, t: u16, g: &[u16], place: usize, row: &mut [u16])
-    requires made { R.Ring.made ring.now }
+    requires made { R.made ring.now }
     requires fits { place + length g.now ≤ length row.old }
-    ensures { Written row.old row.new place (length g.now) (λ i. (R.Ring.meaning ring.now).sum (slice_index row.old (place + i)) ((R.Ring.meaning ring.now).product t (coefficient g.now i))) }
+    ensures { Written row.old row.new place (length g.now) (λ i. (R.meaning ring.now).sum (slice_index row.old (place + i)) ((R.meaning ring.now).product t (coefficient g.now i))) }
 {
     for (i, c) in g.iter().enumerate() {
         row[place + i] = ring.sum(row[place + i], ring.product(t, *c));
@@ -37,10 +37,10 @@ pub(crate) fn add_multiple<R: Ring>(ring: &R, t: u16, g: &[u16], place: usize, r
 
 // Makes a row of zeros that of the codes of the product of f and g.
 pub(crate) fn multiply_codes<R: Ring>(ring: &R, f: &[u16], g: &[u16], row: &mut [u16])
-    requires made { R.Ring.made ring.now }
+    requires made { R.made ring.now }
     requires some { 0 < length g.now }
     requires zeros { IsRow row.old (length f.now + length g.now - 1) (λ _. 0) }
-    ensures { IsRow row.new (length f.now + length g.now - 1) (λ n. total (R.Ring.meaning ring.now) (suc n) (λ i. (R.Ring.meaning ring.now).product (coefficient f.now i) (coefficient g.now (n - i)))) }
+    ensures { IsRow row.new (length f.now + length g.now - 1) (λ n. total (R.meaning ring.now) (suc n) (λ i. (R.meaning ring.now).product (coefficient f.now i) (coefficient g.now (n - i)))) }
 {
     for (i, c) in f.iter().enumerate() {
         add_multiple(ring, *c, g, i, row);
@@ -49,8 +49,8 @@ pub(crate) fn multiply_codes<R: Ring>(ring: &R, f: &[u16], g: &[u16], row: &mut 
 
 // The n-fold sum of a.
 fn repeat_sum<R: Ring>(ring: &R, n: usize, a: u16) -> u16
-    requires { R.Ring.made ring.now }
-    ensures { result ≡ multiple (R.Ring.meaning ring.now) n a }
+    requires { R.made ring.now }
+    ensures { result ≡ multiple (R.meaning ring.now) n a }
 {
     let mut sum = 0;
     for _ in 0..n {
@@ -61,8 +61,8 @@ fn repeat_sum<R: Ring>(ring: &R, n: usize, a: u16) -> u16
 
 // Writes the codes of the derivative of f into a row, as many as it has.
 pub(crate) fn derive_codes<R: Ring>(ring: &R, f: &[u16], row: &mut [u16])
-    requires { R.Ring.made ring.now }
-    ensures { IsRow row.new (length row.old) (λ i. multiple (R.Ring.meaning ring.now) (suc i) (coefficient f.now (suc i))) }
+    requires { R.made ring.now }
+    ensures { IsRow row.new (length row.old) (λ i. multiple (R.meaning ring.now) (suc i) (coefficient f.now (suc i))) }
 {
     for (i, c) in row.iter_mut().enumerate() {
         *c = repeat_sum(ring, i + 1, code_at(f, i + 1));
@@ -71,10 +71,10 @@ pub(crate) fn derive_codes<R: Ring>(ring: &R, f: &[u16], row: &mut [u16])
 
 // The value of f at x, by Horner's rule.
 pub(crate) fn evaluate<R: Ring>(ring: &R, f: &[u16], x: u16) -> u16
-    requires made { R.Ring.made ring.now }
-    requires codes { (i : ℕ) → coefficient f.now i < (R.Ring.meaning ring.now).order }
-    requires point { x < (R.Ring.meaning ring.now).order }
-    ensures { result ≡ value (R.Ring.meaning ring.now) f.now x }
+    requires made { R.made ring.now }
+    requires codes { (i : ℕ) → coefficient f.now i < (R.meaning ring.now).order }
+    requires point { x < (R.meaning ring.now).order }
+    ensures { result ≡ value (R.meaning ring.now) f.now x }
 {
     let mut sum = 0;
     for i in (0..f.len()).rev() {

@@ -23,7 +23,7 @@ fn climb<F: Field>(
     levels: u8,
     bytes: &[u8],
 ) -> anyhow::Result<()>
-    requires { F.Ring.made base }
+    requires { F.made base }
 {
     if levels == 1 {
         return show_steps(rt, base, bytes);

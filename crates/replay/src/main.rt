@@ -1,5 +1,7 @@
 // Works the jobs on standard input, which stand one to a line as hexadecimal text, and prints for each its listing or its refusal,
 // and for one that is not refused a line more, with the answers of all its steps.
+#![tactic(auto)]
+
 mod decode;
 mod hex;
 mod steps;

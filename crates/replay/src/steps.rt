@@ -17,7 +17,7 @@ pub fn show_steps<F: Field>(
     field: F,
     bytes: &[u8],
 ) -> anyhow::Result<()>
-    requires { F.Ring.made field }
+    requires { F.made field }
 {
     let mut sheet = Worksheet::new(Room::new(rt.alloc())?, field);
     if !enter_all(&mut sheet, bytes) {
@@ -31,8 +31,8 @@ pub fn show_steps<F: Field>(
 
 // Enters the polynomials in the bytes; whether that was all that the bytes have.
 fn enter_all<F: Field>(sheet: &mut Worksheet<F>, bytes: &[u8]) -> bool
-    requires { SheetMade (F.Ring.made sheet.old.field) (means (F.Ring.meaning sheet.old.field) (F.Field.extras sheet.old.field)) sheet.old }
-    ensures { SheetMade (F.Ring.made sheet.new.field) (means (F.Ring.meaning sheet.new.field) (F.Field.extras sheet.new.field)) sheet.new }
+    requires { SheetMade (F.made sheet.old.field) (means (F.meaning sheet.old.field) (F.extras sheet.old.field)) sheet.old }
+    ensures { SheetMade (F.made sheet.new.field) (means (F.meaning sheet.new.field) (F.extras sheet.new.field)) sheet.new }
 {
     let [count, rest @ ..] = bytes else {
         return false;
@@ -49,8 +49,8 @@ fn enter_all<F: Field>(sheet: &mut Worksheet<F>, bytes: &[u8]) -> bool
 
 // Enters the first polynomial in the bytes, and answers the bytes behind it.
 fn enter_first<'a, F: Field>(sheet: &mut Worksheet<F>, bytes: &'a [u8]) -> Option<&'a [u8]>
-    requires { SheetMade (F.Ring.made sheet.old.field) (means (F.Ring.meaning sheet.old.field) (F.Field.extras sheet.old.field)) sheet.old }
-    ensures { SheetMade (F.Ring.made sheet.new.field) (means (F.Ring.meaning sheet.new.field) (F.Field.extras sheet.new.field)) sheet.new }
+    requires { SheetMade (F.made sheet.old.field) (means (F.meaning sheet.old.field) (F.extras sheet.old.field)) sheet.old }
+    ensures { SheetMade (F.made sheet.new.field) (means (F.meaning sheet.new.field) (F.extras sheet.new.field)) sheet.new }
 {
     let [length, rest @ ..] = bytes else {
         return None;
@@ -78,7 +78,7 @@ fn read_codes(pairs: &[u8], row: &mut [u16]) {
 
 // Prints the answers of the steps until no part is open.
 fn step_all<F: Field>(rt: &impl Print, sheet: &mut Worksheet<F>) -> anyhow::Result<()>
-    requires { SheetMade (F.Ring.made sheet.old.field) (means (F.Ring.meaning sheet.old.field) (F.Field.extras sheet.old.field)) sheet.old }
+    requires { SheetMade (F.made sheet.old.field) (means (F.meaning sheet.old.field) (F.extras sheet.old.field)) sheet.old }
 {
     let mut scratch = [0u16; SCRATCH];
     for _ in 0..MOST_STEPS {

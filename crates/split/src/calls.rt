@@ -24,8 +24,8 @@ pub fn split<F: Field>(
     first: &mut [u16; MOST_CODES],
     second: &mut [u16; MOST_CODES],
 ) -> Option<(u8, usize, usize)>
-    requires { F.Ring.made field.now }
-    ensures works { Works (means (F.Ring.meaning field.now) (F.Field.extras field.now)) f.now scratch.old first.old second.old result scratch.new first.new second.new }
+    requires { F.made field.now }
+    ensures works { Works (means (F.meaning field.now) (F.extras field.now)) f.now scratch.old first.old second.old result scratch.new first.new second.new }
     ensures once { OneSplitting }
     ensures whole { WholeUnsplittable }
 {

@@ -11,8 +11,8 @@ const ONE: u16 = 1;
 
 // Whether f is a monic polynomial of positive degree over the ring, for which a scratch of `room` codes suffices.
 pub(crate) fn takes<R: Ring>(ring: &R, f: &[u16], room: usize) -> bool
-    requires { R.Ring.made ring.now }
-    ensures { MatchBool result (Taken (R.Ring.meaning ring.now) f.now × (scratch_size f.now ≤ room)) (Taken (R.Ring.meaning ring.now) f.now → scratch_size f.now ≤ room → ⊥) }
+    requires { R.made ring.now }
+    ensures { MatchBool result (Taken (R.meaning ring.now) f.now × (scratch_size f.now ≤ room)) (Taken (R.meaning ring.now) f.now → scratch_size f.now ≤ room → ⊥) }
 {
     if check(ring, f).is_err() {
         return false;

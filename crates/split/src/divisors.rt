@@ -11,10 +11,10 @@ use poly::MOST_CODES;
 
 // Writes the derivative of f into a buffer, and answers its length.
 pub(crate) fn derive<R: Ring>(ring: &R, f: &[u16], out: &mut [u16]) -> usize
-    requires made { R.Ring.made ring.now }
-    requires taken { Taken (R.Ring.meaning ring.now) f.now }
+    requires made { R.made ring.now }
+    requires taken { Taken (R.meaning ring.now) f.now }
     requires room { most_codes ≤ length out.old }
-    ensures { Holds (derivative (R.Ring.meaning ring.now) f.now) result out.new }
+    ensures { Holds (derivative (R.meaning ring.now) f.now) result out.new }
 {
     match poly::derivative(ring, f, out) {
         Ok(n) => n,
@@ -24,13 +24,13 @@ pub(crate) fn derive<R: Ring>(ring: &R, f: &[u16], out: &mut [u16]) -> usize
 
 // Writes the greatest common divisor of f and g into a buffer, and answers its length.
 pub(crate) fn common_divisor<F: Field>(field: &F, f: &[u16], g: &[u16], out: &mut [u16]) -> usize
-    requires made { F.Ring.made field.now }
-    requires laws { FieldLaws (means (F.Ring.meaning field.now) (F.Field.extras field.now)) }
-    requires taken { Taken (F.Ring.meaning field.now) f.now }
-    requires other { Canonical (F.Ring.meaning field.now) g.now }
+    requires made { F.made field.now }
+    requires laws { FieldLaws (means (F.meaning field.now) (F.extras field.now)) }
+    requires taken { Taken (F.meaning field.now) f.now }
+    requires other { Canonical (F.meaning field.now) g.now }
     requires short { length g.now ≤ most_codes }
     requires room { most_codes ≤ length out.old }
-    ensures { (h : List ℕ) × IsCommonDivisor (F.Ring.meaning field.now) f.now g.now h × Holds h result out.new }
+    ensures { (h : List ℕ) × IsCommonDivisor (F.meaning field.now) f.now g.now h × Holds h result out.new }
 {
     match poly::gcd(field, f, g, out) {
         Ok(n) => n,
@@ -40,13 +40,13 @@ pub(crate) fn common_divisor<F: Field>(field: &F, f: &[u16], g: &[u16], out: &mu
 
 // Writes the quotient of f by its divisor g into a buffer, and answers its length.
 pub(crate) fn cofactor<F: Field>(field: &F, f: &[u16], g: &[u16], out: &mut [u16]) -> usize
-    requires made { F.Ring.made field.now }
-    requires laws { FieldLaws (means (F.Ring.meaning field.now) (F.Field.extras field.now)) }
-    requires taken { Taken (F.Ring.meaning field.now) f.now }
-    requires other { Canonical (F.Ring.meaning field.now) g.now }
-    requires divides { Divides (F.Ring.meaning field.now) g.now f.now }
+    requires made { F.made field.now }
+    requires laws { FieldLaws (means (F.meaning field.now) (F.extras field.now)) }
+    requires taken { Taken (F.meaning field.now) f.now }
+    requires other { Canonical (F.meaning field.now) g.now }
+    requires divides { Divides (F.meaning field.now) g.now f.now }
     requires room { most_codes ≤ length out.old }
-    ensures { (h : List ℕ) × Canonical (F.Ring.meaning field.now) h × (product (F.Ring.meaning field.now) g.now h ≡ f.now) × (result ≡ length h) × (out.new ≡ written h out.old) }
+    ensures { (h : List ℕ) × Canonical (F.meaning field.now) h × (product (F.meaning field.now) g.now h ≡ f.now) × (result ≡ length h) × (out.new ≡ written h out.old) }
 {
     let mut rest = [0u16; MOST_CODES];
     match poly::divide(field, f, g, out, &mut rest) {

@@ -40,10 +40,10 @@ fn subtract_multiple<R: Ring>(
     into: usize,
     codes: &mut [u16],
 )
-    requires made { R.Ring.made ring.now }
+    requires made { R.made ring.now }
     requires apart { from + d ≤ into }
     requires within { into + d ≤ length codes.old }
-    ensures { Written codes.old codes.new into d (λ i. less (R.Ring.meaning ring.now) t (slice_index codes.old (into + i)) (slice_index codes.old (from + i))) }
+    ensures { Written codes.old codes.new into d (λ i. less (R.meaning ring.now) t (slice_index codes.old (into + i)) (slice_index codes.old (from + i))) }
 {
     for i in 0..d {
         let multiple = ring.product(t, codes[from + i]);
@@ -53,9 +53,9 @@ fn subtract_multiple<R: Ring>(
 
 // Multiplies the d codes from place `at` on by t.
 fn scale<R: Ring>(ring: &R, t: u16, d: usize, at: usize, codes: &mut [u16])
-    requires made { R.Ring.made ring.now }
+    requires made { R.made ring.now }
     requires within { at + d ≤ length codes.old }
-    ensures { Written codes.old codes.new at d (λ i. (R.Ring.meaning ring.now).product t (slice_index codes.old (at + i))) }
+    ensures { Written codes.old codes.new at d (λ i. (R.meaning ring.now).product t (slice_index codes.old (at + i))) }
 {
     for i in 0..d {
         codes[at + i] = ring.product(t, codes[at + i]);
@@ -74,12 +74,12 @@ fn write_unit(e: usize, d: usize, at: usize, codes: &mut [u16])
 
 // Takes from row e the multiple of row r that clears it at the pivot of row r, and does the same to their combinations.
 fn clear_at_pivot<R: Ring>(ring: &R, d: usize, r: usize, e: usize, codes: &mut [u16])
-    requires made { R.Ring.made ring.now }
+    requires made { R.made ring.now }
     requires space { 2 * (d * d) ≤ length codes.old }
     requires above { r < e }
     requires row { e < d }
     requires pivot { pivot_of codes.old d r < d }
-    ensures { Subtracted (R.Ring.meaning ring.now) d r e (cell codes.old d e (pivot_of codes.old d r)) codes.old codes.new }
+    ensures { Subtracted (R.meaning ring.now) d r e (cell codes.old d e (pivot_of codes.old d r)) codes.old codes.new }
 {
     let column = pivot(&codes[r * d..(r + 1) * d]);
     let t = codes[e * d + column];
@@ -89,15 +89,15 @@ fn clear_at_pivot<R: Ring>(ring: &R, d: usize, r: usize, e: usize, codes: &mut [
 
 // Clears row e at the pivots of rows 1 to e - 1.
 fn reduce<R: Ring>(ring: &R, d: usize, e: usize, codes: &mut [u16])
-    requires made { R.Ring.made ring.now }
+    requires made { R.made ring.now }
     requires space { 2 * (d * d) ≤ length codes.old }
     requires low { 1 ≤ e }
     requires row { e < d }
-    requires below { Codes (R.Ring.meaning ring.now) (2 * (d * d)) codes.old }
+    requires below { Codes (R.meaning ring.now) (2 * (d * d)) codes.old }
     requires pivots { (r : ℕ) → 1 ≤ r → r < e → pivot_of codes.old d r < d }
     ensures frame { Frame d e codes.old codes.new }
-    ensures below { Codes (R.Ring.meaning ring.now) (2 * (d * d)) codes.new }
-    ensures reduced { Reduces (R.Ring.meaning ring.now) d e codes.old codes.new (e - 1) }
+    ensures below { Codes (R.meaning ring.now) (2 * (d * d)) codes.new }
+    ensures reduced { Reduces (R.meaning ring.now) d e codes.old codes.new (e - 1) }
 {
     for r in 1..e {
         clear_at_pivot(ring, d, r, e, codes);
@@ -106,15 +106,15 @@ fn reduce<R: Ring>(ring: &R, d: usize, e: usize, codes: &mut [u16])
 
 // Makes the combination of row e the row itself, and then clears the row at the pivots of rows 1 to e - 1.
 fn clear_row<R: Ring>(ring: &R, d: usize, e: usize, codes: &mut [u16])
-    requires made { R.Ring.made ring.now }
+    requires made { R.made ring.now }
     requires space { 2 * (d * d) ≤ length codes.old }
     requires low { 1 ≤ e }
     requires row { e < d }
-    requires below { Codes (R.Ring.meaning ring.now) (2 * (d * d)) codes.old }
+    requires below { Codes (R.meaning ring.now) (2 * (d * d)) codes.old }
     requires pivots { (r : ℕ) → 1 ≤ r → r < e → pivot_of codes.old d r < d }
     ensures frame { Frame d e codes.old codes.new }
-    ensures below { Codes (R.Ring.meaning ring.now) (2 * (d * d)) codes.new }
-    ensures cleared { Clears (R.Ring.meaning ring.now) d e codes.old codes.new }
+    ensures below { Codes (R.meaning ring.now) (2 * (d * d)) codes.new }
+    ensures cleared { Clears (R.meaning ring.now) d e codes.old codes.new }
 {
     write_unit(e, d, (d + e) * d, codes);
     reduce(ring, d, e, codes);
@@ -122,15 +122,15 @@ fn clear_row<R: Ring>(ring: &R, d: usize, e: usize, codes: &mut [u16])
 
 // Multiplies row e and its combination so that the row is one at its pivot.
 fn scale_to_one<F: Field>(field: &F, d: usize, e: usize, pivot: usize, codes: &mut [u16])
-    requires made { F.Ring.made field.now }
+    requires made { F.made field.now }
     requires space { 2 * (d * d) ≤ length codes.old }
     requires row { e < d }
-    requires below { Codes (F.Ring.meaning field.now) (2 * (d * d)) codes.old }
+    requires below { Codes (F.meaning field.now) (2 * (d * d)) codes.old }
     requires column { pivot < d }
     requires before { (k : ℕ) → k < pivot → cell codes.old d e k ≡ 0 }
     requires here { cell codes.old d e pivot ≢ 0 }
-    ensures below { Codes (F.Ring.meaning field.now) (2 * (d * d)) codes.new }
-    ensures scaled { (u : ℕ) × Scaled (F.Ring.meaning field.now) d e u codes.old codes.new }
+    ensures below { Codes (F.meaning field.now) (2 * (d * d)) codes.new }
+    ensures scaled { (u : ℕ) × Scaled (F.meaning field.now) d e u codes.old codes.new }
 {
     match field.inverse(codes[e * d + pivot]) {
         Some(u) => {
@@ -143,12 +143,12 @@ fn scale_to_one<F: Field>(field: &F, d: usize, e: usize, pivot: usize, codes: &m
 
 // The search, where the places of the combinations hold codes already.
 fn search_rows<F: Field>(field: &F, d: usize, codes: &mut [u16]) -> Option<usize>
-    requires made { F.Ring.made field.now }
+    requires made { F.made field.now }
     requires space { 2 * (d * d) ≤ length codes.old }
-    requires below { Codes (F.Ring.meaning field.now) (2 * (d * d)) codes.old }
-    ensures below { Codes (F.Ring.meaning field.now) (2 * (d * d)) codes.new }
+    requires below { Codes (F.meaning field.now) (2 * (d * d)) codes.old }
+    ensures below { Codes (F.meaning field.now) (2 * (d * d)) codes.new }
     ensures past { (k : ℕ) → 2 * (d * d) ≤ k → slice_index codes.new k ≡ slice_index codes.old k }
-    ensures answer { Answer (F.Ring.meaning field.now) d codes.old codes.new result }
+    ensures answer { Answer (F.meaning field.now) d codes.old codes.new result }
 {
     'rows: for e in 1..d {
         clear_row(field, d, e, codes);
@@ -166,12 +166,12 @@ fn search_rows<F: Field>(field: &F, d: usize, codes: &mut [u16]) -> Option<usize
 // The first of rows 1 to d - 1 that depends on those before it, or none. What the rows were reduced to, and the combinations
 // that made them, is left in the first 2 * d * d codes: for a row e found, row d + e holds the combination that is zero.
 pub(crate) fn dependent_row<F: Field>(field: &F, d: usize, codes: &mut [u16]) -> Option<usize>
-    requires made { F.Ring.made field.now }
+    requires made { F.made field.now }
     requires space { 2 * (d * d) ≤ length codes.old }
-    requires below { Codes (F.Ring.meaning field.now) (d * d) codes.old }
-    ensures below { Codes (F.Ring.meaning field.now) (2 * (d * d)) codes.new }
+    requires below { Codes (F.meaning field.now) (d * d) codes.old }
+    ensures below { Codes (F.meaning field.now) (2 * (d * d)) codes.new }
     ensures past { (k : ℕ) → 2 * (d * d) ≤ k → slice_index codes.new k ≡ slice_index codes.old k }
-    ensures answer { Answer (F.Ring.meaning field.now) d codes.old codes.new result }
+    ensures answer { Answer (F.meaning field.now) d codes.old codes.new result }
 {
     clear(&mut codes[d * d..2 * (d * d)]);
     search_rows(field, d, codes)

@@ -15,10 +15,10 @@ const ONE: u16 = 1;
 
 // Multiplies a row by X modulo f.
 fn times_x<R: Ring>(ring: &R, f: &[u16], row: &mut [u16])
-    requires made { R.Ring.made ring.now }
-    requires taken { Taken (R.Ring.meaning ring.now) f.now }
+    requires made { R.made ring.now }
+    requires taken { Taken (R.meaning ring.now) f.now }
     requires sized { length row.old ≡ degree f.now }
-    ensures { (n : ℕ) → PowerRow (R.Ring.meaning ring.now) f.now n row.old → PowerRow (R.Ring.meaning ring.now) f.now (n + 1) row.new }
+    ensures { (n : ℕ) → PowerRow (R.meaning ring.now) f.now n row.old → PowerRow (R.meaning ring.now) f.now (n + 1) row.new }
 {
     let top = row[row.len() - 1];
     for i in (0..row.len()).rev() {
@@ -35,22 +35,22 @@ pub(crate) fn product_row<R: Ring>(
     right: &[u16],
     out: &mut [u16],
 )
-    requires made { R.Ring.made ring.now }
-    requires taken { Taken (R.Ring.meaning ring.now) f.now }
-    requires left { RowBelow (R.Ring.meaning ring.now) f.now left.now }
-    requires right { RowBelow (R.Ring.meaning ring.now) f.now right.now }
+    requires made { R.made ring.now }
+    requires taken { Taken (R.meaning ring.now) f.now }
+    requires left { RowBelow (R.meaning ring.now) f.now left.now }
+    requires right { RowBelow (R.meaning ring.now) f.now right.now }
     requires room { length out.old ≡ degree f.now }
-    ensures { Residue (R.Ring.meaning ring.now) f.now (product (R.Ring.meaning ring.now) left.now right.now) out.new }
+    ensures { Residue (R.meaning ring.now) f.now (product (R.meaning ring.now) left.now right.now) out.new }
 {
     let _ = multiply_modulo(ring, &f[0..f.len() - 1], left, right, out);
 }
 
 // Squares a row modulo f.
 fn square_row<R: Ring>(ring: &R, f: &[u16], row: &mut [u16])
-    requires made { R.Ring.made ring.now }
-    requires taken { Taken (R.Ring.meaning ring.now) f.now }
-    requires row { RowBelow (R.Ring.meaning ring.now) f.now row.old }
-    ensures { Residue (R.Ring.meaning ring.now) f.now (product (R.Ring.meaning ring.now) row.old row.old) row.new }
+    requires made { R.made ring.now }
+    requires taken { Taken (R.meaning ring.now) f.now }
+    requires row { RowBelow (R.meaning ring.now) f.now row.old }
+    ensures { Residue (R.meaning ring.now) f.now (product (R.meaning ring.now) row.old row.old) row.new }
 {
     let mut codes = [0u16; MOST_CODES];
     let out = &mut codes[0..row.len()];
@@ -60,11 +60,11 @@ fn square_row<R: Ring>(ring: &R, f: &[u16], row: &mut [u16])
 
 // Multiplies a row by another modulo f.
 pub(crate) fn multiply_row<R: Ring>(ring: &R, f: &[u16], factor: &[u16], row: &mut [u16])
-    requires made { R.Ring.made ring.now }
-    requires taken { Taken (R.Ring.meaning ring.now) f.now }
-    requires factor { RowBelow (R.Ring.meaning ring.now) f.now factor.now }
-    requires row { RowBelow (R.Ring.meaning ring.now) f.now row.old }
-    ensures { Residue (R.Ring.meaning ring.now) f.now (product (R.Ring.meaning ring.now) row.old factor.now) row.new }
+    requires made { R.made ring.now }
+    requires taken { Taken (R.meaning ring.now) f.now }
+    requires factor { RowBelow (R.meaning ring.now) f.now factor.now }
+    requires row { RowBelow (R.meaning ring.now) f.now row.old }
+    ensures { Residue (R.meaning ring.now) f.now (product (R.meaning ring.now) row.old factor.now) row.new }
 {
     let mut codes = [0u16; MOST_CODES];
     let out = &mut codes[0..row.len()];
@@ -74,10 +74,10 @@ pub(crate) fn multiply_row<R: Ring>(ring: &R, f: &[u16], factor: &[u16], row: &m
 
 // Writes X^n modulo f, by squaring.
 pub(crate) fn power_row<R: Ring>(ring: &R, f: &[u16], n: u32, row: &mut [u16])
-    requires made { R.Ring.made ring.now }
-    requires taken { Taken (R.Ring.meaning ring.now) f.now }
+    requires made { R.made ring.now }
+    requires taken { Taken (R.meaning ring.now) f.now }
     requires sized { length row.old ≡ degree f.now }
-    ensures { PowerRow (R.Ring.meaning ring.now) f.now n row.new }
+    ensures { PowerRow (R.meaning ring.now) f.now n row.new }
 {
     if n == 0 {
         clear(row);
@@ -93,11 +93,11 @@ pub(crate) fn power_row<R: Ring>(ring: &R, f: &[u16], n: u32, row: &mut [u16])
 
 // Multiplies a row by X^q modulo f, where x is X^q modulo f: where q is small, by X time and again.
 fn advance<R: Ring>(ring: &R, f: &[u16], q: usize, x: &[u16], row: &mut [u16])
-    requires made { R.Ring.made ring.now }
-    requires taken { Taken (R.Ring.meaning ring.now) f.now }
-    requires power { PowerRow (R.Ring.meaning ring.now) f.now q x.now }
-    requires row { RowBelow (R.Ring.meaning ring.now) f.now row.old }
-    ensures { (n : ℕ) → PowerRow (R.Ring.meaning ring.now) f.now n row.old → PowerRow (R.Ring.meaning ring.now) f.now (n + q) row.new }
+    requires made { R.made ring.now }
+    requires taken { Taken (R.meaning ring.now) f.now }
+    requires power { PowerRow (R.meaning ring.now) f.now q x.now }
+    requires row { RowBelow (R.meaning ring.now) f.now row.old }
+    ensures { (n : ℕ) → PowerRow (R.meaning ring.now) f.now n row.old → PowerRow (R.meaning ring.now) f.now (n + q) row.new }
 {
     if q <= row.len() {
         for _ in 0..q {
@@ -110,9 +110,9 @@ fn advance<R: Ring>(ring: &R, f: &[u16], q: usize, x: &[u16], row: &mut [u16])
 
 // Writes a row as row j of the matrix, with one taken away at column j.
 fn put_row<R: Ring>(ring: &R, j: usize, row: &[u16], codes: &mut [u16])
-    requires made { R.Ring.made ring.now }
+    requires made { R.made ring.now }
     requires within { j * length row.now + length row.now ≤ length codes.old }
-    ensures { Written codes.old codes.new (j * length row.now) (length row.now) (less_one_at (R.Ring.meaning ring.now) row.now j) }
+    ensures { Written codes.old codes.new (j * length row.now) (length row.now) (less_one_at (R.meaning ring.now) row.now j) }
 {
     let place = j * row.len();
     for (i, c) in row.iter().enumerate() {
@@ -126,14 +126,14 @@ fn put_row<R: Ring>(ring: &R, j: usize, row: &[u16], codes: &mut [u16])
 
 // Writes the rows of the matrix, where x is X^q modulo f and the row begins as X^0.
 fn fill_rows<R: Ring>(ring: &R, f: &[u16], q: usize, x: &[u16], row: &mut [u16], codes: &mut [u16])
-    requires made { R.Ring.made ring.now }
-    requires taken { Taken (R.Ring.meaning ring.now) f.now }
-    requires order { q ≡ (R.Ring.meaning ring.now).order }
-    requires power { PowerRow (R.Ring.meaning ring.now) f.now q x.now }
-    requires start { PowerRow (R.Ring.meaning ring.now) f.now 0 row.old }
+    requires made { R.made ring.now }
+    requires taken { Taken (R.meaning ring.now) f.now }
+    requires order { q ≡ (R.meaning ring.now).order }
+    requires power { PowerRow (R.meaning ring.now) f.now q x.now }
+    requires start { PowerRow (R.meaning ring.now) f.now 0 row.old }
     requires space { degree f.now * degree f.now ≤ length codes.old }
-    ensures below { Codes (R.Ring.meaning ring.now) (degree f.now * degree f.now) codes.new }
-    ensures rows { FixedRows (R.Ring.meaning ring.now) f.now (degree f.now) codes.new }
+    ensures below { Codes (R.meaning ring.now) (degree f.now * degree f.now) codes.new }
+    ensures rows { FixedRows (R.meaning ring.now) f.now (degree f.now) codes.new }
     ensures past { (k : ℕ) → degree f.now * degree f.now ≤ k → slice_index codes.new k ≡ slice_index codes.old k }
 {
     for j in 0..row.len() {
@@ -144,11 +144,11 @@ fn fill_rows<R: Ring>(ring: &R, f: &[u16], q: usize, x: &[u16], row: &mut [u16],
 
 // Writes the matrix of f.
 pub(crate) fn fill_matrix<R: Ring>(ring: &R, f: &[u16], codes: &mut [u16])
-    requires made { R.Ring.made ring.now }
-    requires taken { Taken (R.Ring.meaning ring.now) f.now }
+    requires made { R.made ring.now }
+    requires taken { Taken (R.meaning ring.now) f.now }
     requires space { degree f.now * degree f.now ≤ length codes.old }
-    ensures below { Codes (R.Ring.meaning ring.now) (degree f.now * degree f.now) codes.new }
-    ensures rows { FixedRows (R.Ring.meaning ring.now) f.now (degree f.now) codes.new }
+    ensures below { Codes (R.meaning ring.now) (degree f.now * degree f.now) codes.new }
+    ensures rows { FixedRows (R.meaning ring.now) f.now (degree f.now) codes.new }
     ensures past { (k : ℕ) → degree f.now * degree f.now ≤ k → slice_index codes.new k ≡ slice_index codes.old k }
 {
     let d = f.len() - 1;

@@ -22,9 +22,9 @@ const ONE: u16 = 1;
 
 // The characteristic. The laws of a field come with the answers to its three questions.
 fn characteristic_of<F: Field>(field: &F) -> u32
-    requires { F.Ring.made field.now }
-    ensures value { result ≡ (F.Field.extras field.now).characteristic }
-    ensures laws { FieldLaws (means (F.Ring.meaning field.now) (F.Field.extras field.now)) }
+    requires { F.made field.now }
+    ensures value { result ≡ (F.extras field.now).characteristic }
+    ensures laws { FieldLaws (means (F.meaning field.now) (F.extras field.now)) }
 {
     let _ = field.exponent();
     let _ = field.inverse(ONE);
@@ -33,13 +33,13 @@ fn characteristic_of<F: Field>(field: &F) -> u32
 
 // Kind 1: writes the root of f, where p is the characteristic.
 fn take_root<F: Field>(field: &F, p: u32, f: &[u16], out: &mut [u16]) -> (u8, usize, usize)
-    requires made { F.Ring.made field.now }
-    requires laws { FieldLaws (means (F.Ring.meaning field.now) (F.Field.extras field.now)) }
-    requires prime { p ≡ (F.Field.extras field.now).characteristic }
-    requires taken { Taken (F.Ring.meaning field.now) f.now }
-    requires kind { derivative (F.Ring.meaning field.now) f.now ≡ zero_polynomial }
+    requires made { F.made field.now }
+    requires laws { FieldLaws (means (F.meaning field.now) (F.extras field.now)) }
+    requires prime { p ≡ (F.extras field.now).characteristic }
+    requires taken { Taken (F.meaning field.now) f.now }
+    requires kind { derivative (F.meaning field.now) f.now ≡ zero_polynomial }
     requires room { length f.now ≤ length out.old }
-    ensures { (other : List ℕ) → Split (means (F.Ring.meaning field.now) (F.Field.extras field.now)) f.now out.old other result out.new other }
+    ensures { (other : List ℕ) → Split (means (F.meaning field.now) (F.extras field.now)) f.now out.old other result out.new other }
 {
     let degree = (f.len() - 1) / p as usize;
     root_codes(field, p as usize, field.order() / p, degree + 1, f, out);
@@ -55,14 +55,14 @@ fn write_pair<F: Field>(
     first: &mut [u16],
     second: &mut [u16],
 ) -> (u8, usize, usize)
-    requires made { F.Ring.made field.now }
-    requires laws { FieldLaws (means (F.Ring.meaning field.now) (F.Field.extras field.now)) }
-    requires taken { Taken (F.Ring.meaning field.now) f.now }
-    requires divisor { Canonical (F.Ring.meaning field.now) g.now }
-    requires divides { Divides (F.Ring.meaning field.now) g.now f.now }
+    requires made { F.made field.now }
+    requires laws { FieldLaws (means (F.meaning field.now) (F.extras field.now)) }
+    requires taken { Taken (F.meaning field.now) f.now }
+    requires divisor { Canonical (F.meaning field.now) g.now }
+    requires divides { Divides (F.meaning field.now) g.now f.now }
     requires one { most_codes ≤ length first.old }
     requires two { most_codes ≤ length second.old }
-    ensures { Paired (F.Ring.meaning field.now) kind f.now g.now first.old second.old result first.new second.new }
+    ensures { Paired (F.meaning field.now) kind f.now g.now first.old second.old result first.new second.new }
 {
     first[0..g.len()].copy_from_slice(g);
     let n = cofactor(field, f, g, second);
@@ -78,16 +78,16 @@ fn take_shift<F: Field>(
     first: &mut [u16],
     second: &mut [u16],
 ) -> (u8, usize, usize)
-    requires made { F.Ring.made field.now }
-    requires laws { FieldLaws (means (F.Ring.meaning field.now) (F.Field.extras field.now)) }
-    requires taken { Taken (F.Ring.meaning field.now) f.now }
-    requires least { LeastFixed (F.Ring.meaning field.now) f.now fixed.now }
-    requires canonical { Canonical (F.Ring.meaning field.now) sieve.now }
+    requires made { F.made field.now }
+    requires laws { FieldLaws (means (F.meaning field.now) (F.extras field.now)) }
+    requires taken { Taken (F.meaning field.now) f.now }
+    requires least { LeastFixed (F.meaning field.now) f.now fixed.now }
+    requires canonical { Canonical (F.meaning field.now) sieve.now }
     requires short { length sieve.now ≤ most_codes }
-    requires sieves { Sieves (F.Ring.meaning field.now) f.now fixed.now sieve.now }
+    requires sieves { Sieves (F.meaning field.now) f.now fixed.now sieve.now }
     requires one { most_codes ≤ length first.old }
     requires two { most_codes ≤ length second.old }
-    ensures { (g : List ℕ) × (w : ℕ) × SmallestShift (F.Ring.meaning field.now) f.now fixed.now w g × Paired (F.Ring.meaning field.now) 3 f.now g first.old second.old result first.new second.new }
+    ensures { (g : List ℕ) × (w : ℕ) × SmallestShift (F.meaning field.now) f.now fixed.now w g × Paired (F.meaning field.now) 3 f.now g first.old second.old result first.new second.new }
 {
     let w = smallest_shift(field, f, fixed, sieve);
     let mut divisor = [0u16; MOST_CODES];
@@ -105,16 +105,16 @@ fn split_by_shift<F: Field>(
     first: &mut [u16],
     second: &mut [u16],
 ) -> (u8, usize, usize)
-    requires made { F.Ring.made field.now }
-    requires laws { FieldLaws (means (F.Ring.meaning field.now) (F.Field.extras field.now)) }
-    requires taken { Taken (F.Ring.meaning field.now) f.now }
+    requires made { F.made field.now }
+    requires laws { FieldLaws (means (F.meaning field.now) (F.extras field.now)) }
+    requires taken { Taken (F.meaning field.now) f.now }
     requires degree { e < degree f.now }
-    requires least { LeastFixed (F.Ring.meaning field.now) f.now (take (e + 1) fixed.now) }
-    requires residue { Residue (F.Ring.meaning field.now) f.now (take (e + 1) fixed.now) fixed.now }
+    requires least { LeastFixed (F.meaning field.now) f.now (take (e + 1) fixed.now) }
+    requires residue { Residue (F.meaning field.now) f.now (take (e + 1) fixed.now) fixed.now }
     requires space { 2 * (degree f.now * degree f.now) ≤ length codes.old }
     requires one { most_codes ≤ length first.old }
     requires two { most_codes ≤ length second.old }
-    ensures split { (g : List ℕ) × (w : ℕ) × SmallestShift (F.Ring.meaning field.now) f.now (take (e + 1) fixed.now) w g × Paired (F.Ring.meaning field.now) 3 f.now g first.old second.old result first.new second.new }
+    ensures split { (g : List ℕ) × (w : ℕ) × SmallestShift (F.meaning field.now) f.now (take (e + 1) fixed.now) w g × Paired (F.meaning field.now) 3 f.now g first.old second.old result first.new second.new }
     ensures past { (k : ℕ) → 2 * (degree f.now * degree f.now) ≤ k → slice_index codes.new k ≡ slice_index codes.old k }
 {
     let mut sieve = [0u16; MOST_CODES];
@@ -130,14 +130,14 @@ fn split_simple<F: Field>(
     first: &mut [u16],
     second: &mut [u16],
 ) -> (u8, usize, usize)
-    requires made { F.Ring.made field.now }
-    requires laws { FieldLaws (means (F.Ring.meaning field.now) (F.Field.extras field.now)) }
-    requires taken { Taken (F.Ring.meaning field.now) f.now }
-    requires simple { Simple (F.Ring.meaning field.now) f.now }
+    requires made { F.made field.now }
+    requires laws { FieldLaws (means (F.meaning field.now) (F.extras field.now)) }
+    requires taken { Taken (F.meaning field.now) f.now }
+    requires simple { Simple (F.meaning field.now) f.now }
     requires space { 2 * (degree f.now * degree f.now) ≤ length codes.old }
     requires one { most_codes ≤ length first.old }
     requires two { most_codes ≤ length second.old }
-    ensures split { Split (means (F.Ring.meaning field.now) (F.Field.extras field.now)) f.now first.old second.old result first.new second.new }
+    ensures split { Split (means (F.meaning field.now) (F.extras field.now)) f.now first.old second.old result first.new second.new }
     ensures past { (k : ℕ) → 2 * (degree f.now * degree f.now) ≤ k → slice_index codes.new k ≡ slice_index codes.old k }
 {
     let d = f.len() - 1;
@@ -162,12 +162,12 @@ pub(crate) fn split_taken<F: Field>(
     first: &mut [u16],
     second: &mut [u16],
 ) -> (u8, usize, usize)
-    requires made { F.Ring.made field.now }
-    requires taken { Taken (F.Ring.meaning field.now) f.now }
+    requires made { F.made field.now }
+    requires taken { Taken (F.meaning field.now) f.now }
     requires space { 2 * (degree f.now * degree f.now) ≤ length codes.old }
     requires one { most_codes ≤ length first.old }
     requires two { most_codes ≤ length second.old }
-    ensures split { Split (means (F.Ring.meaning field.now) (F.Field.extras field.now)) f.now first.old second.old result first.new second.new }
+    ensures split { Split (means (F.meaning field.now) (F.extras field.now)) f.now first.old second.old result first.new second.new }
     ensures past { (k : ℕ) → 2 * (degree f.now * degree f.now) ≤ k → slice_index codes.new k ≡ slice_index codes.old k }
 {
     let p = characteristic_of(field);

@@ -1,5 +1,7 @@
 // Splitting of polynomials over finite fields by Berlekamp's method: elimination over the field finds a polynomial whose shifts share
 // a factor with the one to split.
+#![tactic(auto)]
+
 mod calls;
 mod checks;
 mod divisors;

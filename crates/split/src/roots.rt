@@ -11,9 +11,9 @@ const ONE: u16 = 1;
 
 // The code a to the power n, by squaring.
 fn power_code<R: Ring>(ring: &R, a: u16, n: u32) -> u16
-    requires made { R.Ring.made ring.now }
-    requires code { a < (R.Ring.meaning ring.now).order }
-    ensures { result ≡ power (R.Ring.meaning ring.now) a n }
+    requires made { R.made ring.now }
+    requires code { a < (R.meaning ring.now).order }
+    ensures { result ≡ power (R.meaning ring.now) a n }
 {
     let mut result = ONE;
     let mut base = a;
@@ -37,12 +37,12 @@ pub(crate) fn root_codes<R: Ring>(
     f: &[u16],
     out: &mut [u16],
 )
-    requires made { R.Ring.made ring.now }
-    requires codes { (i : ℕ) → coefficient f.now i < (R.Ring.meaning ring.now).order }
+    requires made { R.made ring.now }
+    requires codes { (i : ℕ) → coefficient f.now i < (R.meaning ring.now).order }
     requires within { (i : ℕ) → i < count → p * i < length f.now }
     requires short { length f.now ≤ 128 }
     requires room { count ≤ length out.old }
-    ensures { Written out.old out.new 0 count (λ i. power (R.Ring.meaning ring.now) (coefficient f.now (p * i)) n) }
+    ensures { Written out.old out.new 0 count (λ i. power (R.meaning ring.now) (coefficient f.now (p * i)) n) }
 {
     for i in 0..count {
         out[i] = power_code(ring, f[p * i], n);

@@ -21,12 +21,12 @@ pub(crate) fn shift_divisor<F: Field>(
     w: u16,
     out: &mut [u16],
 ) -> usize
-    requires made { F.Ring.made field.now }
-    requires laws { FieldLaws (means (F.Ring.meaning field.now) (F.Field.extras field.now)) }
-    requires taken { Taken (F.Ring.meaning field.now) f.now }
-    requires least { LeastFixed (F.Ring.meaning field.now) f.now fixed.now }
+    requires made { F.made field.now }
+    requires laws { FieldLaws (means (F.meaning field.now) (F.extras field.now)) }
+    requires taken { Taken (F.meaning field.now) f.now }
+    requires least { LeastFixed (F.meaning field.now) f.now fixed.now }
     requires room { most_codes ≤ length out.old }
-    ensures { (h : List ℕ) × ShiftDivisor (F.Ring.meaning field.now) f.now fixed.now w h × Holds h result out.new }
+    ensures { (h : List ℕ) × ShiftDivisor (F.meaning field.now) f.now fixed.now w h × Holds h result out.new }
 {
     let mut codes = [0u16; MOST_CODES];
     let shifted = &mut codes[0..fixed.len()];
@@ -37,11 +37,11 @@ pub(crate) fn shift_divisor<F: Field>(
 
 // Whether f and Q - w have a common divisor of positive degree.
 fn shares<F: Field>(field: &F, f: &[u16], fixed: &[u16], w: u16) -> bool
-    requires made { F.Ring.made field.now }
-    requires laws { FieldLaws (means (F.Ring.meaning field.now) (F.Field.extras field.now)) }
-    requires taken { Taken (F.Ring.meaning field.now) f.now }
-    requires least { LeastFixed (F.Ring.meaning field.now) f.now fixed.now }
-    ensures { MatchBool result ((h : List ℕ) × ShiftDivisor (F.Ring.meaning field.now) f.now fixed.now w h × (0 < degree h)) (ShiftDivisor (F.Ring.meaning field.now) f.now fixed.now w (constant (one (F.Ring.meaning field.now)))) }
+    requires made { F.made field.now }
+    requires laws { FieldLaws (means (F.meaning field.now) (F.extras field.now)) }
+    requires taken { Taken (F.meaning field.now) f.now }
+    requires least { LeastFixed (F.meaning field.now) f.now fixed.now }
+    ensures { MatchBool result ((h : List ℕ) × ShiftDivisor (F.meaning field.now) f.now fixed.now w h × (0 < degree h)) (ShiftDivisor (F.meaning field.now) f.now fixed.now w (constant (one (F.meaning field.now)))) }
 {
     let mut divisor = [0u16; MOST_CODES];
     shift_divisor(field, f, fixed, w, &mut divisor) > 1
@@ -49,11 +49,11 @@ fn shares<F: Field>(field: &F, f: &[u16], fixed: &[u16], w: u16) -> bool
 
 // Whether a polynomial is zero at a code.
 fn is_zero_at<R: Ring>(ring: &R, sieve: &[u16], w: u16) -> bool
-    requires made { R.Ring.made ring.now }
-    requires canonical { Canonical (R.Ring.meaning ring.now) sieve.now }
+    requires made { R.made ring.now }
+    requires canonical { Canonical (R.meaning ring.now) sieve.now }
     requires short { length sieve.now ≤ most_codes }
-    requires code { w < (R.Ring.meaning ring.now).order }
-    ensures { MatchBool result (value (R.Ring.meaning ring.now) sieve.now w ≡ 0) (value (R.Ring.meaning ring.now) sieve.now w ≢ 0) }
+    requires code { w < (R.meaning ring.now).order }
+    ensures { MatchBool result (value (R.meaning ring.now) sieve.now w ≡ 0) (value (R.meaning ring.now) sieve.now w ≢ 0) }
 {
     match poly::value(ring, sieve, w) {
         Ok(v) => v == 0,
@@ -63,14 +63,14 @@ fn is_zero_at<R: Ring>(ring: &R, sieve: &[u16], w: u16) -> bool
 
 // The smallest shift. Only the zeros of the sieve are worth a try.
 pub(crate) fn smallest_shift<F: Field>(field: &F, f: &[u16], fixed: &[u16], sieve: &[u16]) -> u16
-    requires made { F.Ring.made field.now }
-    requires laws { FieldLaws (means (F.Ring.meaning field.now) (F.Field.extras field.now)) }
-    requires taken { Taken (F.Ring.meaning field.now) f.now }
-    requires least { LeastFixed (F.Ring.meaning field.now) f.now fixed.now }
-    requires canonical { Canonical (F.Ring.meaning field.now) sieve.now }
+    requires made { F.made field.now }
+    requires laws { FieldLaws (means (F.meaning field.now) (F.extras field.now)) }
+    requires taken { Taken (F.meaning field.now) f.now }
+    requires least { LeastFixed (F.meaning field.now) f.now fixed.now }
+    requires canonical { Canonical (F.meaning field.now) sieve.now }
     requires short { length sieve.now ≤ most_codes }
-    requires sieves { Sieves (F.Ring.meaning field.now) f.now fixed.now sieve.now }
-    ensures { (h : List ℕ) × SmallestShift (F.Ring.meaning field.now) f.now fixed.now result h }
+    requires sieves { Sieves (F.meaning field.now) f.now fixed.now sieve.now }
+    ensures { (h : List ℕ) × SmallestShift (F.meaning field.now) f.now fixed.now result h }
 {
     let mut w = 0;
     loop {

@@ -36,16 +36,16 @@ fn fill_powers<R: Ring>(
     constants: &mut [u16],
     codes: &mut [u16],
 )
-    requires made { R.Ring.made ring.now }
-    requires taken { Taken (R.Ring.meaning ring.now) f.now }
-    requires fixed { RowBelow (R.Ring.meaning ring.now) f.now fixed.now }
-    requires start { PowerRow (R.Ring.meaning ring.now) f.now 0 row.old }
-    requires constants { (i : ℕ) → coefficient constants.old i < (R.Ring.meaning ring.now).order }
+    requires made { R.made ring.now }
+    requires taken { Taken (R.meaning ring.now) f.now }
+    requires fixed { RowBelow (R.meaning ring.now) f.now fixed.now }
+    requires start { PowerRow (R.meaning ring.now) f.now 0 row.old }
+    requires constants { (i : ℕ) → coefficient constants.old i < (R.meaning ring.now).order }
     requires room { degree f.now ≤ length constants.old }
     requires space { degree f.now * degree f.now ≤ length codes.old }
-    ensures constants { (i : ℕ) → coefficient constants.new i < (R.Ring.meaning ring.now).order }
-    ensures below { Codes (R.Ring.meaning ring.now) (degree f.now * degree f.now) codes.new }
-    ensures rows { (q : List ℕ) → Canonical (R.Ring.meaning ring.now) q → Residue (R.Ring.meaning ring.now) f.now q fixed.now → PowerRows (R.Ring.meaning ring.now) f.now q (degree f.now) codes.new constants.new }
+    ensures constants { (i : ℕ) → coefficient constants.new i < (R.meaning ring.now).order }
+    ensures below { Codes (R.meaning ring.now) (degree f.now * degree f.now) codes.new }
+    ensures rows { (q : List ℕ) → Canonical (R.meaning ring.now) q → Residue (R.meaning ring.now) f.now q fixed.now → PowerRows (R.meaning ring.now) f.now q (degree f.now) codes.new constants.new }
     ensures past { (k : ℕ) → degree f.now * degree f.now ≤ k → slice_index codes.new k ≡ slice_index codes.old k }
 {
     for j in 0..row.len() {
@@ -63,10 +63,10 @@ fn combine_constants<R: Ring>(
     constants: &[u16],
     codes: &[u16],
 ) -> u16
-    requires made { R.Ring.made ring.now }
+    requires made { R.made ring.now }
     requires within { place + e < length codes.now }
     requires room { e < length constants.now }
-    ensures { result ≡ combined (R.Ring.meaning ring.now) e (λ j. slice_index codes.now (place + j)) (coefficient constants.now) }
+    ensures { result ≡ combined (R.meaning ring.now) e (λ j. slice_index codes.now (place + j)) (coefficient constants.now) }
 {
     let mut sum = 0;
     for j in 0..e {
@@ -84,13 +84,13 @@ fn write_relation<R: Ring>(
     codes: &[u16],
     out: &mut [u16],
 ) -> usize
-    requires made { R.Ring.made ring.now }
+    requires made { R.made ring.now }
     requires row { e < d }
     requires small { d < most_codes }
     requires space { 2 * (d * d) ≤ length codes.now }
     requires constants { most_codes ≤ length constants.now }
     requires room { most_codes ≤ length out.old }
-    ensures { (t : List ℕ) × IsRow t (suc e) (relation_at (R.Ring.meaning ring.now) codes.now d e constants.now) × Holds t result out.new }
+    ensures { (t : List ℕ) × IsRow t (suc e) (relation_at (R.meaning ring.now) codes.now d e constants.now) × Holds t result out.new }
 {
     let place = (d + e) * d;
     out[0..e + 1].copy_from_slice(&codes[place..place + e + 1]);
@@ -115,13 +115,13 @@ fn sieve_of_powers<F: Field>(
     codes: &mut [u16],
     out: &mut [u16],
 ) -> usize
-    requires made { F.Ring.made field.now }
-    requires laws { FieldLaws (means (F.Ring.meaning field.now) (F.Field.extras field.now)) }
-    requires taken { Taken (F.Ring.meaning field.now) f.now }
-    requires fixed { RowBelow (F.Ring.meaning field.now) f.now fixed.now }
+    requires made { F.made field.now }
+    requires laws { FieldLaws (means (F.meaning field.now) (F.extras field.now)) }
+    requires taken { Taken (F.meaning field.now) f.now }
+    requires fixed { RowBelow (F.meaning field.now) f.now fixed.now }
     requires space { 2 * (degree f.now * degree f.now) ≤ length codes.old }
     requires room { most_codes ≤ length out.old }
-    ensures sieve { (q : List ℕ) → Canonical (F.Ring.meaning field.now) q → Residue (F.Ring.meaning field.now) f.now q fixed.now → SieveIn (F.Ring.meaning field.now) f.now q result out.new }
+    ensures sieve { (q : List ℕ) → Canonical (F.meaning field.now) q → Residue (F.meaning field.now) f.now q fixed.now → SieveIn (F.meaning field.now) f.now q result out.new }
     ensures past { (k : ℕ) → 2 * (degree f.now * degree f.now) ≤ k → slice_index codes.new k ≡ slice_index codes.old k }
 {
     let d = f.len() - 1;
@@ -146,15 +146,15 @@ pub(crate) fn write_sieve<F: Field>(
     codes: &mut [u16],
     out: &mut [u16],
 ) -> usize
-    requires made { F.Ring.made field.now }
-    requires laws { FieldLaws (means (F.Ring.meaning field.now) (F.Field.extras field.now)) }
-    requires taken { Taken (F.Ring.meaning field.now) f.now }
+    requires made { F.made field.now }
+    requires laws { FieldLaws (means (F.meaning field.now) (F.extras field.now)) }
+    requires taken { Taken (F.meaning field.now) f.now }
     requires degree { e < degree f.now }
-    requires least { LeastFixed (F.Ring.meaning field.now) f.now (take (e + 1) fixed.now) }
-    requires residue { Residue (F.Ring.meaning field.now) f.now (take (e + 1) fixed.now) fixed.now }
+    requires least { LeastFixed (F.meaning field.now) f.now (take (e + 1) fixed.now) }
+    requires residue { Residue (F.meaning field.now) f.now (take (e + 1) fixed.now) fixed.now }
     requires space { 2 * (degree f.now * degree f.now) ≤ length codes.old }
     requires room { most_codes ≤ length out.old }
-    ensures sieve { SieveIn (F.Ring.meaning field.now) f.now (take (e + 1) fixed.now) result out.new }
+    ensures sieve { SieveIn (F.meaning field.now) f.now (take (e + 1) fixed.now) result out.new }
     ensures past { (k : ℕ) → 2 * (degree f.now * degree f.now) ≤ k → slice_index codes.new k ≡ slice_index codes.old k }
 {
     if e == 1 {

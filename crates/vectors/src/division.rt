@@ -287,7 +287,7 @@ fn holds(rt: &impl Abort, buffer: &[u16], expected: &[u16]) {
 }
 
 fn divisions<F: Field>(rt: &impl Abort, field: &F, cases: &[Case]) -> Result<(), Fail>
-    requires { F.Ring.made field.now }
+    requires { F.made field.now }
 {
     for case in cases {
         let mut quotient = [9u16; 16];

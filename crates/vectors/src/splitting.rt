@@ -367,7 +367,7 @@ fn wiped(rt: &impl Abort, scratch: &[u16], n: usize) {
 }
 
 fn steps<F: Field>(rt: &impl Abort, field: &F, cases: &[Case]) -> Result<(), Fail>
-    requires { F.Ring.made field.now }
+    requires { F.made field.now }
 {
     for case in cases {
         let mut scratch = [9u16; 520];
@@ -412,7 +412,7 @@ const NOT_TAKEN: [&[u16]; 7] = [&[], &[0], &[1], &[3], &[1, 2], &[1, 0], &[1, 5,
 
 // Nothing is answered for f and a scratch of 17 codes, and nothing changes.
 fn untouched<F: Field>(rt: &impl Abort, field: &F, f: &[u16])
-    requires { F.Ring.made field.now }
+    requires { F.made field.now }
 {
     let mut scratch = [9u16; 17];
     let mut first = [9u16; MOST_CODES];

@@ -49,8 +49,8 @@ fn refused(
 }
 
 fn enter<F: Field>(rt: &impl Abort, sheet: &mut Worksheet<F>, call: &Call) -> Result<(), Fail>
-    requires { SheetMade (F.Ring.made sheet.old.field) (means (F.Ring.meaning sheet.old.field) (F.Field.extras sheet.old.field)) sheet.old }
-    ensures { SheetMade (F.Ring.made sheet.new.field) (means (F.Ring.meaning sheet.new.field) (F.Field.extras sheet.new.field)) sheet.new }
+    requires { SheetMade (F.made sheet.old.field) (means (F.meaning sheet.old.field) (F.extras sheet.old.field)) sheet.old }
+    ensures { SheetMade (F.made sheet.new.field) (means (F.meaning sheet.new.field) (F.extras sheet.new.field)) sheet.new }
 {
     match call {
         Call::Enter(f, degree) => match sheet.enter(f) {
@@ -74,8 +74,8 @@ fn step<F: Field>(
     call: &Call,
     scratch: &mut [u16],
 ) -> Result<(), Fail>
-    requires { SheetMade (F.Ring.made sheet.old.field) (means (F.Ring.meaning sheet.old.field) (F.Field.extras sheet.old.field)) sheet.old }
-    ensures { SheetMade (F.Ring.made sheet.new.field) (means (F.Ring.meaning sheet.new.field) (F.Field.extras sheet.new.field)) sheet.new }
+    requires { SheetMade (F.made sheet.old.field) (means (F.meaning sheet.old.field) (F.extras sheet.old.field)) sheet.old }
+    ensures { SheetMade (F.made sheet.new.field) (means (F.meaning sheet.new.field) (F.extras sheet.new.field)) sheet.new }
 {
     match call {
         Call::Step(kind, left, right) => match sheet.step(scratch) {
@@ -94,8 +94,8 @@ fn step<F: Field>(
 }
 
 fn take<F: Field>(rt: &impl Abort, sheet: &mut Worksheet<F>, call: &Call) -> Result<(), Fail>
-    requires { SheetMade (F.Ring.made sheet.old.field) (means (F.Ring.meaning sheet.old.field) (F.Field.extras sheet.old.field)) sheet.old }
-    ensures { SheetMade (F.Ring.made sheet.new.field) (means (F.Ring.meaning sheet.new.field) (F.Field.extras sheet.new.field)) sheet.new }
+    requires { SheetMade (F.made sheet.old.field) (means (F.meaning sheet.old.field) (F.extras sheet.old.field)) sheet.old }
+    ensures { SheetMade (F.made sheet.new.field) (means (F.meaning sheet.new.field) (F.extras sheet.new.field)) sheet.new }
 {
     let mut buffer = [9u16; MOST_CODES];
     match call {
@@ -118,7 +118,7 @@ fn take<F: Field>(rt: &impl Abort, sheet: &mut Worksheet<F>, call: &Call) -> Res
 }
 
 fn stands<F: Field>(rt: &impl Abort, sheet: &Worksheet<F>, call: &Call) -> Result<(), Fail>
-    requires { SheetMade (F.Ring.made sheet.now.field) (means (F.Ring.meaning sheet.now.field) (F.Field.extras sheet.now.field)) sheet.now }
+    requires { SheetMade (F.made sheet.now.field) (means (F.meaning sheet.now.field) (F.extras sheet.now.field)) sheet.now }
 {
     let mut buffer = [9u16; MOST_CODES];
     match call {
@@ -155,8 +155,8 @@ fn play<F: Field>(
     calls: &[Call],
     scratch: &mut [u16],
 ) -> Result<(), Fail>
-    requires { SheetMade (F.Ring.made sheet.old.field) (means (F.Ring.meaning sheet.old.field) (F.Field.extras sheet.old.field)) sheet.old }
-    ensures { SheetMade (F.Ring.made sheet.new.field) (means (F.Ring.meaning sheet.new.field) (F.Field.extras sheet.new.field)) sheet.new }
+    requires { SheetMade (F.made sheet.old.field) (means (F.meaning sheet.old.field) (F.extras sheet.old.field)) sheet.old }
+    ensures { SheetMade (F.made sheet.new.field) (means (F.meaning sheet.new.field) (F.extras sheet.new.field)) sheet.new }
 {
     for call in calls {
         enter(rt, sheet, call)?;
@@ -174,7 +174,7 @@ fn plays<F: Field>(
     calls: &[Call],
     scratch: &mut [u16],
 ) -> Result<(), Fail>
-    requires { F.Ring.made field }
+    requires { F.made field }
 {
     let mut sheet = Worksheet::new(Room::new(rt.alloc())?, field);
     play(rt, &mut sheet, calls, scratch)

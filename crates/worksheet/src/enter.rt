@@ -24,10 +24,10 @@ const CODES_OF_CONSTANT: usize = 1;
 impl<F: Field> Worksheet<F> {
     // Enters the polynomial f, and answers its degree.
     pub fn enter(&mut self, f: &[u16]) -> Result<usize, SheetFault>
-        requires { SheetMade (F.Ring.made self.old.field) (means (F.Ring.meaning self.old.field) (F.Field.extras self.old.field)) self.old }
-        ensures made { SheetMade (F.Ring.made self.new.field) (means (F.Ring.meaning self.new.field) (F.Field.extras self.new.field)) self.new }
+        requires { SheetMade (F.made self.old.field) (means (F.meaning self.old.field) (F.extras self.old.field)) self.old }
+        ensures made { SheetMade (F.made self.new.field) (means (F.meaning self.new.field) (F.extras self.new.field)) self.new }
         ensures same { self.new.field ≡ self.old.field }
-        ensures entered { Entered (means (F.Ring.meaning self.old.field) (F.Field.extras self.old.field)) (sheet_of self.old) f.now result (sheet_of self.new) }
+        ensures entered { Entered (means (F.meaning self.old.field) (F.extras self.old.field)) (sheet_of self.old) f.now result (sheet_of self.new) }
         ensures kept { elim result [ Ok _ ↦ Unit {0} | Err _ ↦ self.new ≡ self.old ] }
     {
         self.check_entry(f)?;
@@ -41,8 +41,8 @@ impl<F: Field> Worksheet<F> {
 
     // Whether f may be entered: refused with 10, 11, 12, 20 or 21 where it may not.
     fn check_entry(&self, f: &[u16]) -> Result<(), SheetFault>
-        requires { SheetMade (F.Ring.made self.now.field) (means (F.Ring.meaning self.now.field) (F.Field.extras self.now.field)) self.now }
-        ensures { Passes (enter_refusal (F.Ring.meaning self.now.field) (sheet_of self.now) f.now) result }
+        requires { SheetMade (F.made self.now.field) (means (F.meaning self.now.field) (F.extras self.now.field)) self.now }
+        ensures { Passes (enter_refusal (F.meaning self.now.field) (sheet_of self.now) f.now) result }
     {
         check(&self.field, f)?;
         let last = f.len() - 1;
@@ -58,13 +58,13 @@ impl<F: Field> Worksheet<F> {
 
 // Places f, divided by its last code, once. A constant is not placed.
 fn place_monic<F: Field>(field: &F, f: &[u16], parts: &mut Vec<Part>)
-    requires base { F.Ring.made field.now }
+    requires base { F.made field.now }
     requires some { 0 < length f.now }
     requires short { length f.now ≤ most_codes }
     requires sized { Each Sized parts.old.items }
     requires counts { Each (λ p. p.times + 1 < 2 ^ 32) parts.old.items }
     requires room { 1 < length f.now → vec_len parts.old < vec_capacity parts.old }
-    ensures placed { map part_of parts.new.items ≡ (if nat_eq (degree f.now) 0 then map part_of parts.old.items else placed-in (monic_of (means (F.Ring.meaning field.now) (F.Field.extras field.now)) f.now) 1 (map part_of parts.old.items)) }
+    ensures placed { map part_of parts.new.items ≡ (if nat_eq (degree f.now) 0 then map part_of parts.old.items else placed-in (monic_of (means (F.meaning field.now) (F.extras field.now)) f.now) 1 (map part_of parts.old.items)) }
     ensures sized { Each Sized parts.new.items }
     ensures capacity { vec_capacity parts.new ≡ vec_capacity parts.old }
 {
@@ -78,10 +78,10 @@ fn place_monic<F: Field>(field: &F, f: &[u16], parts: &mut Vec<Part>)
 
 // Writes f, divided by its last code, into a row of its length.
 fn make_monic<F: Field>(field: &F, f: &[u16], row: &mut [u16])
-    requires base { F.Ring.made field.now }
+    requires base { F.made field.now }
     requires some { 0 < length f.now }
     requires room { length row.old ≡ length f.now }
-    ensures { row.new ≡ monic_of (means (F.Ring.meaning field.now) (F.Field.extras field.now)) f.now }
+    ensures { row.new ≡ monic_of (means (F.meaning field.now) (F.extras field.now)) f.now }
 {
     match field.inverse(f[f.len() - 1]) {
         Some(a) => scale(field, a, f, row),
@@ -91,9 +91,9 @@ fn make_monic<F: Field>(field: &F, f: &[u16], row: &mut [u16])
 
 // Writes each code of f times a into a row of its length.
 fn scale<R: Ring>(ring: &R, a: u16, f: &[u16], row: &mut [u16])
-    requires base { R.Ring.made ring.now }
+    requires base { R.made ring.now }
     requires room { length row.old ≡ length f.now }
-    ensures { row.new ≡ map ((R.Ring.meaning ring.now).product a) f.now }
+    ensures { row.new ≡ map ((R.meaning ring.now).product a) f.now }
 {
     for (i, c) in row.iter_mut().enumerate() {
         *c = ring.product(a, f[i]);

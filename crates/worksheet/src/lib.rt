@@ -1,4 +1,6 @@
 // Worksheets: polynomials are entered, split step by step, and taken out again.
+#![tactic(auto)]
+
 mod enter;
 mod fault;
 mod making;

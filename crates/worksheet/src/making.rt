@@ -28,11 +28,11 @@ impl Room {
 impl<F: Field> Worksheet<F> {
     // A worksheet with the unit one and no part. The law of splitting holds of every list of calls that follow.
     pub fn new(room: Room, field: F) -> Worksheet<F>
-        requires base { F.Ring.made field }
+        requires base { F.made field }
         requires space { RoomMade room }
-        ensures made { SheetMade (F.Ring.made result.field) (means (F.Ring.meaning result.field) (F.Field.extras result.field)) result }
+        ensures made { SheetMade (F.made result.field) (means (F.meaning result.field) (F.extras result.field)) result }
         ensures law { Law }
-        ensures empty { (result.field ≡ field) × (sheet_of result ≡ empty (F.Ring.meaning field)) }
+        ensures empty { (result.field ≡ field) × (sheet_of result ≡ empty (F.meaning field)) }
     {
         let _ = field.characteristic();
         let _ = field.exponent();

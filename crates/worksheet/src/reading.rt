@@ -33,8 +33,8 @@ impl<F> Worksheet<F> {
 impl<F: Field> Worksheet<F> {
     // The order of the field.
     pub fn order(&self) -> u32
-        requires { SheetMade (F.Ring.made self.now.field) (means (F.Ring.meaning self.now.field) (F.Field.extras self.now.field)) self.now }
-        ensures { result ≡ (F.Ring.meaning self.now.field).order }
+        requires { SheetMade (F.made self.now.field) (means (F.meaning self.now.field) (F.extras self.now.field)) self.now }
+        ensures { result ≡ (F.meaning self.now.field).order }
     {
         self.field.order()
     }

@@ -24,10 +24,10 @@ const WHOLE_KIND: u8 = 4;
 impl<F: Field> Worksheet<F> {
     // Splits or settles the first open part, and answers the kind, from 1 to 4, with two degrees.
     pub fn step(&mut self, scratch: &mut [u16]) -> Result<(u8, usize, usize), SheetFault>
-        requires { SheetMade (F.Ring.made self.old.field) (means (F.Ring.meaning self.old.field) (F.Field.extras self.old.field)) self.old }
-        ensures made { SheetMade (F.Ring.made self.new.field) (means (F.Ring.meaning self.new.field) (F.Field.extras self.new.field)) self.new }
+        requires { SheetMade (F.made self.old.field) (means (F.meaning self.old.field) (F.extras self.old.field)) self.old }
+        ensures made { SheetMade (F.made self.new.field) (means (F.meaning self.new.field) (F.extras self.new.field)) self.new }
         ensures same { self.new.field ≡ self.old.field }
-        ensures stepped { Stepped (means (F.Ring.meaning self.old.field) (F.Field.extras self.old.field)) (sheet_of self.old) scratch.old result (sheet_of self.new) scratch.new }
+        ensures stepped { Stepped (means (F.meaning self.old.field) (F.extras self.old.field)) (sheet_of self.old) scratch.old result (sheet_of self.new) scratch.new }
         ensures kept { elim result [ Ok _ ↦ Unit {0} | Err _ ↦ self.new ≡ self.old ] }
     {
         let Some(number) = first_open(self.parts.as_slice()) else {
@@ -46,9 +46,9 @@ impl<F: Field> Worksheet<F> {
 
     // Puts what the first open part was split into in its place.
     fn replace(&mut self, number: usize, told: (u8, usize, usize), first: &[u16], second: &[u16])
-        requires made { SheetMade (F.Ring.made self.old.field) (means (F.Ring.meaning self.old.field) (F.Field.extras self.old.field)) self.old }
-        requires chosen { Chosen (means (F.Ring.meaning self.old.field) (F.Field.extras self.old.field)) (sheet_of self.old).parts number told first.now second.now }
-        ensures replaced { Replaces (means (F.Ring.meaning self.old.field) (F.Field.extras self.old.field)) (sheet_of self.old) told (sheet_of self.new) }
+        requires made { SheetMade (F.made self.old.field) (means (F.meaning self.old.field) (F.extras self.old.field)) self.old }
+        requires chosen { Chosen (means (F.meaning self.old.field) (F.extras self.old.field)) (sheet_of self.old).parts number told first.now second.now }
+        ensures replaced { Replaces (means (F.meaning self.old.field) (F.extras self.old.field)) (sheet_of self.old) told (sheet_of self.new) }
         ensures sized { Each Sized self.new.parts.items }
         ensures capacity { vec_capacity self.new.parts ≡ vec_capacity self.old.parts }
         ensures same { self.new.field ≡ self.old.field }

@@ -13,7 +13,7 @@ use field::Field;
 impl<F: Field> Worksheet<F> {
     // Reads the part with this number into a buffer, and answers its degree, its multiplicity and its mark.
     pub fn read(&self, number: usize, out: &mut [u16]) -> Result<(usize, u32, Mark), SheetFault>
-        requires { SheetMade (F.Ring.made self.now.field) (means (F.Ring.meaning self.now.field) (F.Field.extras self.now.field)) self.now }
+        requires { SheetMade (F.made self.now.field) (means (F.meaning self.now.field) (F.extras self.now.field)) self.now }
         ensures { Read (sheet_of self.now) number out.old result out.new }
     {
         if number >= self.parts.len() {
@@ -29,8 +29,8 @@ impl<F: Field> Worksheet<F> {
 
     // Takes one of the settled part with this number into a buffer, and answers its degree.
     pub fn take(&mut self, number: usize, out: &mut [u16]) -> Result<usize, SheetFault>
-        requires { SheetMade (F.Ring.made self.old.field) (means (F.Ring.meaning self.old.field) (F.Field.extras self.old.field)) self.old }
-        ensures made { SheetMade (F.Ring.made self.new.field) (means (F.Ring.meaning self.new.field) (F.Field.extras self.new.field)) self.new }
+        requires { SheetMade (F.made self.old.field) (means (F.meaning self.old.field) (F.extras self.old.field)) self.old }
+        ensures made { SheetMade (F.made self.new.field) (means (F.meaning self.new.field) (F.extras self.new.field)) self.new }
         ensures same { self.new.field ≡ self.old.field }
         ensures taken { Taken (sheet_of self.old) number out.old result (sheet_of self.new) out.new }
         ensures kept { elim result [ Ok _ ↦ Unit {0} | Err _ ↦ self.new ≡ self.old ] }

@@ -14,9 +14,9 @@ returns-in-Some g c =
     let F : FieldMeaning = means r (g.F.Field.extras c.args.base.now) in
     let k : ℕ = c.args.k in
     let n : ℕ = c.args.m in
-    let f : List ℕ = c.write-modulus.new.row in
+    let f : List ℕ = c.write_modulus.new.row in
     let range : InRange r k n = in_range r k n c.requires.range in
-    let is : f ≡ modulus r k n = row_modulus r k n (replicate 17 0) f c.write-modulus.ensures (omega (arith, range.top)) in
+    let is : f ≡ modulus r k n = row_modulus r k n (replicate 17 0) f c.write_modulus.ensures (omega (arith, range.top)) in
     let w = c.in-Some.ensures.works.2 in
     subst (λ (x : List ℕ). MatchBool (not (eqb c.in-Some.kind 4)) (Otherwise F x) (SplitsInto F x whole)) is (told F f w.into w.splits _ w.answers)
 
@@ -26,7 +26,7 @@ returns-in-None g c =
     let L : RingLaws r = g.met.F.Ring.ring c.args.base.now c.requires.made in
     let k : ℕ = c.args.k in
     let n : ℕ = c.args.m in
-    let f : List ℕ = c.write-modulus.new.row in
+    let f : List ℕ = c.write_modulus.new.row in
     let range : InRange r k n = in_range r k n c.requires.range in
-    let is : f ≡ modulus r k n = row_modulus r k n (replicate 17 0) f c.write-modulus.ensures (omega (arith, range.top)) in
+    let is : f ≡ modulus r k n = row_modulus r k n (replicate 17 0) f c.write_modulus.ensures (omega (arith, range.top)) in
     absurd (c.in-None.ensures.works.0 (subst (Taken r) (sym is) (modulus_taken r L k n range)) (subst (λ (x : List ℕ). scratch_size x ≤ 512) (sym is) (modulus_room r L k n range)))

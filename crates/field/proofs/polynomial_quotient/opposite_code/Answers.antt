@@ -6,17 +6,17 @@ use Rattle.field.specs.Ranges.{in_range}
 use Rattle.field.proofs.RowCodes.{written, row_codes, row_small, row_below, opposite_number}
 use Rattle.field.proofs.polynomial_quotient.opposite_code.Goals as goal
 
-pub number-of-requires : goal.number-of-requires
-number-of-requires g c =
+pub number_of-requires : goal.number_of-requires
+number_of-requires g c =
     let r : RingMeaning = g.R.Ring.meaning c.args.x.now.base in
     let L : RingLaws r = g.met.R.Ring.ring c.args.x.now.base c.requires.base in
     let k : ℕ = c.args.x.now.k in
     let i = in_range r k c.args.x.now.m c.requires.in_range in
-    let is : c.write-digits.new.row ≡ digits r.order k c.args.a = written _ _ c.from-2.result k _ _ _ c.write-digits.ensures c.order-order.ensures c.from-2.ensures i.top c.from-3.ensures in
-    let long : length c.oppose-row.new.row ≡ k = c.oppose-row.ensures.sized ∙ ap length is ∙ digits_length r.order k c.args.a in
+    let is : c.write_digits.new.row ≡ digits r.order k c.args.a = written _ _ c.from-2.result k _ _ _ c.write_digits.ensures c.order-order.ensures c.from-2.ensures i.top c.from-3.ensures in
+    let long : length c.oppose_row.new.row ≡ k = c.oppose_row.ensures.sized ∙ ap length is ∙ digits_length r.order k c.args.a in
     record {
       small = row_small r L k c.order-order.result _ c.order-order.ensures long i.high;
-      digits = row_below r L k c.order-order.result _ c.order-order.ensures (row_codes r L k _ _ _ c.oppose-row.ensures (λ i. L.opposite_code _));
+      digits = row_below r L k c.order-order.result _ c.order-order.ensures (row_codes r L k _ _ _ c.oppose_row.ensures (λ i. L.opposite_code _));
     }
 
 pub returns : goal.returns
@@ -25,7 +25,7 @@ returns g c =
     let L : RingLaws r = g.met.R.Ring.ring c.args.x.now.base c.requires.base in
     let k : ℕ = c.args.x.now.k in
     let i = in_range r k c.args.x.now.m c.requires.in_range in
-    let is : c.write-digits.new.row ≡ digits r.order k c.args.a = written _ _ c.from-2.result k _ _ _ c.write-digits.ensures c.order-order.ensures c.from-2.ensures i.top c.from-3.ensures in
-    c.number-of.ensures ∙ ap (λ (b : ℕ). from_digits b c.oppose-row.new.row) c.order-order.ensures
-    ∙ opposite_number r L k c.args.x.now.m c.args.a _ c.write-digits.new.row c.oppose-row.new.row is c.oppose-row.ensures (ap length is ∙ digits_length r.order k c.args.a)
-    (omega (arith, c.order-of.ensures, c.from.ensures, c.if-from-order-of.false))
+    let is : c.write_digits.new.row ≡ digits r.order k c.args.a = written _ _ c.from-2.result k _ _ _ c.write_digits.ensures c.order-order.ensures c.from-2.ensures i.top c.from-3.ensures in
+    c.number_of.ensures ∙ ap (λ (b : ℕ). from_digits b c.oppose_row.new.row) c.order-order.ensures
+    ∙ opposite_number r L k c.args.x.now.m c.args.a _ c.write_digits.new.row c.oppose_row.new.row is c.oppose_row.ensures (ap length is ∙ digits_length r.order k c.args.a)
+    (omega (arith, c.order_of.ensures, c.from.ensures, c.if-from-order_of.false))

@@ -4,8 +4,8 @@ use Rattle.field.proofs.Remainders.{suited, row_coded}
 use Rattle.field.proofs.RowProducts.{horner_none, horner_more, horner_all}
 use Rattle.field.proofs.row_products.multiply_rows.Goals as goal
 
-pub step-row-requires : goal.step-row-requires
-step-row-requires g c =
+pub step_row-requires : goal.step_row-requires
+step_row-requires g c =
     let s = suited (g.R.Ring.meaning c.args.ring.now) c.args.lower.now c.args.left.now c.args.right.now c.args.row.now c.requires.suits in
     let long : length c.loop-i.row ≡ length c.args.row.now = c.loop-i.auto.row ∙ c.fill.ensures.len in
     record { made = c.requires.made; some = omega (arith, s.some); modulus = s.lower_long ∙ sym long; factor = s.right_long ∙ sym long }
@@ -22,8 +22,8 @@ loop-i-preserved g c = λ L some.
     let r : RingMeaning = g.R.Ring.meaning c.args.ring.now in
     let s = suited r c.args.lower.now c.args.left.now c.args.right.now c.args.row.now c.requires.suits in
     horner_more r L c.args.lower.now some (row_coded r L _ s.lower_codes) c.args.right.now (row_coded r L _ s.right_codes) (s.right_long ∙ sym s.lower_long)
-    c.args.left.now (row_coded r L _ s.left_codes) c.loop-i.i c.loop-i.row c.step-row.new.row
-    c.loop-i-test.true c.loop-i.auto.i (c.loop-i.invariant L some) c.step-row.ensures
+    c.args.left.now (row_coded r L _ s.left_codes) c.loop-i.i c.loop-i.row c.step_row.new.row
+    c.loop-i-test.true c.loop-i.auto.i (c.loop-i.invariant L some) c.step_row.ensures
 
 pub returns : goal.returns
 returns g c =

@@ -14,8 +14,8 @@ pub loop-i-preserved : goal.loop-i-preserved
 loop-i-preserved g c =
     let m : RingMeaning = g.R.Ring.meaning c.args.ring.now in
     let below : c.if-i-eq0.below ≡ coefficient (0 ∷ c.args.row.now) (c.loop-i.i - 1) = elim c.if-i-eq0.branch [
-      | then-i-eq0 w ↦ w.below_is ∙ below_first c.args.row.now (c.loop-i.i - 1) w.if-i-eq0.true
-      | else-i-eq0 w ↦ w.below_is ∙ c.loop-i.invariant.kept (c.loop-i.i - 1 - 1) (omega arith) ∙ below_next c.args.row.now (c.loop-i.i - 1) w.if-i-eq0.false
+      | then-i-eq0 w ↦ w.below-is ∙ below_first c.args.row.now (c.loop-i.i - 1) w.if-i-eq0.true
+      | else-i-eq0 w ↦ w.below-is ∙ c.loop-i.invariant.kept (c.loop-i.i - 1 - 1) (omega arith) ∙ below_next c.args.row.now (c.loop-i.i - 1) w.if-i-eq0.false
     ] in
     partly_more c.args.row.now c.loop-i.row c.loop-i.i c.sum.result (stepped m c.args.lower.now c.args.a c.args.right.now c.args.row.now) c.loop-i.invariant c.loop-i-test.true c.loop-i.auto.i c.loop-i.auto.row
     (step_code m c.args.lower.now c.args.a c.args.right.now c.args.row.now (c.loop-i.i - 1) c.sum.result c.sum-lowered.result c.if-i-eq0.below c.opposite-taken.result c.product.result c.product-added.result

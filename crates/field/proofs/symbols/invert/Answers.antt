@@ -10,4 +10,4 @@ returns-then-a-eq0 c = inverse_none ∙ ap symbol_extras.inverse (sym c.if-a-eq0
 pub returns : goal.returns
 returns c =
     let p : 0 < c.args.a = omega (arith, c.if-a-eq0.false) in
-    inverse_read _ _ c.symbol-tables-table.ensures c.args.a c.from.result c.from-2.result p (omega arith) c.from.ensures c.from-2.ensures
+    inverse_read _ _ c.symbol_tables-table.ensures c.args.a c.from.result c.from-2.result p (omega arith) c.from.ensures c.from-2.ensures

@@ -14,5 +14,5 @@ pub returns : goal.returns
 returns c =
     let p : 0 < c.args.a = omega (arith, c.if-a-eq0.false) in
     let q : 0 < c.args.b = omega (arith, c.if-b-eq0.false) in
-    product_read _ _ c.symbol-tables-table.ensures c.args.a c.args.b c.from.result c.from-2.result c.from-3.result c.from-4.result
+    product_read _ _ c.symbol_tables-table.ensures c.args.a c.args.b c.from.result c.from-2.result c.from-3.result c.from-4.result
     p (omega arith) q (omega arith) c.from.ensures c.from-2.ensures c.from-3.ensures c.from-4.ensures

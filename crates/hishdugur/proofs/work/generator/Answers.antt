@@ -17,7 +17,7 @@ pub loop-i-preserved : goal.loop-i-preserved
 unfolding product_of linear_factors
 loop-i-preserved g c =
     let m : RingMeaning = g.R.Ring.meaning c.args.ring.now in
-    let w = accepted _ _ _ _ _ c.in-ok-n.ensures in (
+    let w = accepted _ _ _ _ _ c.in_ok-n.ensures in (
       omega (arith, w.2, c.loop-i.invariant.2),
       w.3 ∙ w.1 ∙ ap₂ (product m) (ap (λ (x : ℕ). x ∷ 1 ∷ []) (c.opposite.ensures ∙ ap m.opposite c.root.ensures)) c.loop-i.invariant.1
           ∙ ap (λ (k : ℕ). product_of m (linear_factors m k)) (sym (add-one c.loop-i.i)),

@@ -6,9 +6,9 @@ use Rattle.job.proofs.text.write_part.Goals as goal
 
 pub returns : goal.returns
 returns g c plain ok =
-    let head = c.in-ok-write.ensures.shows plain refl in
-    let numbers = c.in-ok-write-codes.ensures head.plain refl in
-    let end = c.write-str.ensures.writes numbers.plain ok in
+    let head = c.in_ok-write.ensures.shows plain refl in
+    let numbers = c.in_ok-write_codes.ensures head.plain refl in
+    let end = c.write_str.ensures.writes numbers.plain ok in
     has_written_of_eq g.W.Write.write_str_gives _ _ _ _
-    (line_is (part_of c.args.part.now) _ _ _ c.codes-codes.ensures c.saturating-sub-degree.ensures c.times-times.ensures)
+    (line_is (part_of c.args.part.now) _ _ _ c.codes-codes.ensures c.saturating_sub-degree.ensures c.times-times.ensures)
     (has_written_append g.W.Write.write_str_gives _ _ _ _ _ (has_written_append g.W.Write.write_str_gives _ _ _ _ _ head numbers) end)

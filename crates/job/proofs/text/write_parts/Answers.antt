@@ -17,7 +17,7 @@ loop-part-preserved g c plain =
     let i = c.loop-part.part-index in
     let x = get_or xs i blank in
     let so_far = c.loop-part.invariant plain in
-    let next = c.in-ok-write-part.ensures so_far.plain refl in
+    let next = c.in_ok-write_part.ensures so_far.plain refl in
     has_written_of_eq g.W.Write.write_str_gives _ _ _ _ (lines_more xs i x (omega arith) (get_or_default xs i blank x (omega arith)))
     (has_written_append g.W.Write.write_str_gives _ _ _ _ _ so_far next)
 

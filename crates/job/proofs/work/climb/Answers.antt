@@ -8,29 +8,29 @@ use Rattle.job.specs.Job.{Climbs}
 use Rattle.job.proofs.Working.{answer_break, over_equal}
 use Rattle.job.proofs.work.climb.Goals as goal
 
-pub returns-in-err-first : goal.returns-in-err-first
-returns-in-err-first g c =
+pub returns-in_err-first : goal.returns-in_err-first
+returns-in_err-first g c =
     let F : FieldMeaning = means (g.F.Ring.meaning c.args.base) (g.F.Field.extras c.args.base) in
     let bytes : List ℕ = c.args.reader.bytes.now in
     let i : ℕ = c.args.reader.at in
     let more : ℕ = c.args.more in
     let one_more : suc (more - 1) ≡ more = omega (arith, c.if-more-eq0.false) in
-    answer_break (Climbs F (levels_from bytes i more)) c.from-residual.result c.from-residual.ensures.1
+    answer_break (Climbs F (levels_from bytes i more)) c.from_residual.result c.from_residual.ensures.1
     (λ e q. subst (λ (x : JobFault). Climbs F (levels_from bytes i more) (Err x)) (sym q)
-    (subst (λ (x : ℕ). Climbs F (levels_from bytes i x) (Err c.in-err-first.field-0.0)) one_more (c.in-err-first.ensures.leads (more - 1))))
+    (subst (λ (x : ℕ). Climbs F (levels_from bytes i x) (Err c.in_err-first.field-0.0)) one_more (c.in_err-first.ensures.leads (more - 1))))
 
-pub returns-in-err-second : goal.returns-in-err-second
-returns-in-err-second g c =
+pub returns-in_err-second : goal.returns-in_err-second
+returns-in_err-second g c =
     let F : FieldMeaning = means (g.F.Ring.meaning c.args.base) (g.F.Field.extras c.args.base) in
     let bytes : List ℕ = c.args.reader.bytes.now in
     let i : ℕ = c.args.reader.at in
     let more : ℕ = c.args.more in
     let two : 2 ≡ more = omega (arith, c.if-more-eq0.false, c.if-more-eq1.false) in
-    let first = c.in-ok-first.ensures in
-    let e₀ : JobFault = c.in-err-second.field-0.0 in
-    answer_break (Climbs F (levels_from bytes i more)) c.from-residual-in-err-second.result c.from-residual-in-err-second.ensures.1
+    let first = c.in_ok-first.ensures in
+    let e₀ : JobFault = c.in_err-second.field-0.0 in
+    answer_break (Climbs F (levels_from bytes i more)) c.from_residual-in_err-second.result c.from_residual-in_err-second.ensures.1
     (λ e q. subst (λ (x : JobFault). Climbs F (levels_from bytes i more) (Err x)) (sym q)
-    (subst (λ (x : ℕ). Climbs F (levels_from bytes i x) (Err e₀)) two (first.leads 1 (Err e₀) (over_equal (levels_left c.extend.new.reader 1) (Err e₀) (ap₂ means first.makes.1 first.makes.2) (c.in-err-second.ensures.leads 0)))))
+    (subst (λ (x : ℕ). Climbs F (levels_from bytes i x) (Err e₀)) two (first.leads 1 (Err e₀) (over_equal (levels_left c.extend.new.reader 1) (Err e₀) (ap₂ means first.makes.1 first.makes.2) (c.in_err-second.ensures.leads 0)))))
 
 pub returns : goal.returns
 returns g c =
@@ -38,8 +38,8 @@ returns g c =
     let bytes : List ℕ = c.args.reader.bytes.now in
     let i : ℕ = c.args.reader.at in
     let two : 2 ≡ c.args.more = omega (arith, c.if-more-eq0.false, c.if-more-eq1.false) in
-    let first = c.in-ok-first.ensures in
-    let second = c.in-ok-second.ensures in
+    let first = c.in_ok-first.ensures in
+    let second = c.in_ok-second.ensures in
     let r : Result Outcome JobFault = answer_of c.work-2.result in
     subst (λ (x : ℕ). Climbs F (levels_from bytes i x) r) two
     (first.leads 1 r (over_equal (levels_left c.extend.new.reader 1) r (ap₂ means first.makes.1 first.makes.2)

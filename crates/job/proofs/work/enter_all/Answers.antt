@@ -10,24 +10,24 @@ use Rattle.job.specs.Job.{Works}
 use Rattle.job.proofs.Working.{leads_break, none_left}
 use Rattle.job.proofs.work.enter_all.Goals as goal
 
-pub returns-in-err-enter-next : goal.returns-in-err-enter-next
-returns-in-err-enter-next g c =
+pub returns-in_err-enter_next : goal.returns-in_err-enter_next
+returns-in_err-enter_next g c =
     let inv = c.loop.invariant in
     let s : SheetMeaning = sheet_of c.loop.sheet in
     let meaning : g.row.F.Denot → FieldMeaning = λ x. means (g.F.Ring.meaning x) (g.F.Field.extras x) in
     let left : ℕ → Polynomials = polynomials_from (bytes_of c.loop.reader) c.loop.reader.at in
     let n : ℕ = c.args.count - c.loop.counter in
     let one_more : suc (n - 1) ≡ n = omega arith in
-    let stop = c.from-residual.ensures in
-    let fault : JobFault = c.in-err-enter-next.field-0.0 in
-    let refused : Works (meaning c.loop.sheet.field) s (left (suc (n - 1))) (Err fault) = c.in-err-enter-next.ensures.leads (n - 1) in
+    let stop = c.from_residual.ensures in
+    let fault : JobFault = c.in_err-enter_next.field-0.0 in
+    let refused : Works (meaning c.loop.sheet.field) s (left (suc (n - 1))) (Err fault) = c.in_err-enter_next.ensures.leads (n - 1) in
     record {
-      leads = leads_break _ _ c.from-residual.result stop.1
+      leads = leads_break _ _ c.from_residual.result stop.1
           (λ e q. inv.3 (Err e) (subst (λ (x : JobFault). Works (meaning c.args.sheet.now.field) s (left n) (Err x)) (sym q)
           (subst (λ (x : g.row.F.Denot). Works (meaning x) s (left n) (Err fault)) inv.1 (subst (λ (x : ℕ). Works (meaning c.loop.sheet.field) s (left x) (Err fault)) one_more refused))));
-      made = c.enter-next.ensures.made;
-      same = c.enter-next.ensures.same ∙ inv.1;
-      within = IfOk-from_err c.from-residual.result _ stop.0;
+      made = c.enter_next.ensures.made;
+      same = c.enter_next.ensures.same ∙ inv.1;
+      within = IfOk-from_err c.from_residual.result _ stop.0;
     }
 
 pub returns : goal.returns

@@ -10,36 +10,36 @@ use Rattle.job.specs.Job.{Climbs}
 use Rattle.job.proofs.Working.{leads_break, placed_refused, placed_taken, field_refused, field_taken, extended_refused, extended_made, level_stopped, level_refused, level_made, level_is, climbs_moved}
 use Rattle.job.proofs.work.extend.Goals as goal
 
-pub returns-in-err-k : goal.returns-in-err-k
-returns-in-err-k g c =
+pub returns-in_err-k : goal.returns-in_err-k
+returns-in_err-k g c =
     let F : FieldMeaning = means (g.F.Ring.meaning c.args.base) (g.F.Field.extras c.args.base) in
     let bytes : List ℕ = c.args.reader.now.bytes.now in
     let i : ℕ = c.args.reader.now.at in
-    let stop = c.from-residual.ensures in
+    let stop = c.from_residual.ensures in
     record {
-      leads = λ n. leads_break _ _ c.from-residual.result stop.1 (λ e q. subst (λ (x : JobFault). Climbs F (levels_from bytes i (suc n)) (Err x)) (sym q) (level_stopped F bytes i n _ c.in-err-k.ensures.value));
-      makes = IfOk-from_err c.from-residual.result _ stop.0;
-      within = IfOk-from_err c.from-residual.result _ stop.0;
+      leads = λ n. leads_break _ _ c.from_residual.result stop.1 (λ e q. subst (λ (x : JobFault). Climbs F (levels_from bytes i (suc n)) (Err x)) (sym q) (level_stopped F bytes i n _ c.in_err-k.ensures.value));
+      makes = IfOk-from_err c.from_residual.result _ stop.0;
+      within = IfOk-from_err c.from_residual.result _ stop.0;
     }
 
-pub returns-in-err-placed : goal.returns-in-err-placed
-returns-in-err-placed g c =
+pub returns-in_err-placed : goal.returns-in_err-placed
+returns-in_err-placed g c =
     let F : FieldMeaning = means (g.F.Ring.meaning c.args.base) (g.F.Field.extras c.args.base) in
     let bytes : List ℕ = c.args.reader.now.bytes.now in
     let i : ℕ = c.args.reader.now.at in
-    let read = c.in-ok-k.ensures.value in
+    let read = c.in_ok-k.ensures.value in
     let is = level_is bytes i _ read in
-    let bad = placed_refused c.at-field.result i c.in-err-placed.field-0.0 (sym c.in-err-placed.was ∙ c.placed.ensures) in
-    let fault = field_refused c.new.result bad.0 (sym c.at-field.ensures ∙ bad.1) in
+    let bad = placed_refused c.at_field.result i c.in_err-placed.field-0.0 (sym c.in_err-placed.was ∙ c.placed.ensures) in
+    let fault = field_refused c.new.result bad.0 (sym c.at_field.ensures ∙ bad.1) in
     let refused = extended_refused F _ c.new.result (c.from.ensures ∙ ap (λ (a : ℕ × ℕ). a.0) is) (c.from-2.ensures ∙ ap (λ (a : ℕ × ℕ). a.1) is) c.new.ensures.makes fault.0 fault.1 in
-    let stop = c.from-residual-in-err-placed.ensures in
+    let stop = c.from_residual-in_err-placed.ensures in
     record {
-      leads = λ n. leads_break _ _ c.from-residual-in-err-placed.result stop.1
+      leads = λ n. leads_break _ _ c.from_residual-in_err-placed.result stop.1
           (λ e q.
           subst (λ (x : JobFault). Climbs F (levels_from bytes i (suc n)) (Err x)) (sym (q ∙ ap (λ (x : RefusedRecord). Record x.at x.fault) bad.2 ∙ ap (Record i) fault.2))
           (level_refused F bytes i n read fault.0 refused));
-      makes = IfOk-from_err c.from-residual-in-err-placed.result _ stop.0;
-      within = IfOk-from_err c.from-residual-in-err-placed.result _ stop.0;
+      makes = IfOk-from_err c.from_residual-in_err-placed.result _ stop.0;
+      within = IfOk-from_err c.from_residual-in_err-placed.result _ stop.0;
     }
 
 pub returns : goal.returns
@@ -47,13 +47,13 @@ returns g c =
     let F : FieldMeaning = means (g.F.Ring.meaning c.args.base) (g.F.Field.extras c.args.base) in
     let bytes : List ℕ = c.args.reader.now.bytes.now in
     let i : ℕ = c.args.reader.now.at in
-    let read = c.in-ok-k.ensures.value in
+    let read = c.in_ok-k.ensures.value in
     let is = level_is bytes i _ read in
     let k : c.from.result ≡ byte bytes (i + 1) = c.from.ensures ∙ ap (λ (a : ℕ × ℕ). a.0) is in
     let m : c.from-2.result ≡ word bytes (i + 2) = c.from-2.ensures ∙ ap (λ (a : ℕ × ℕ). a.1) is in
-    let moved = c.in-ok-k.ensures.moved in
-    let x = c.in-ok-placed.field-0 in
-    let taken = field_taken c.new.result x (sym c.at-field.ensures ∙ placed_taken c.at-field.result i x (sym c.in-ok-placed.was ∙ c.placed.ensures)) in
+    let moved = c.in_ok-k.ensures.moved in
+    let x = c.in_ok-placed.field-0 in
+    let taken = field_taken c.new.result x (sym c.at_field.ensures ∙ placed_taken c.at_field.result i x (sym c.in_ok-placed.was ∙ c.placed.ensures)) in
     let made = extended_made F _ c.new.result k m c.new.ensures.makes x taken in
     record {
       leads = λ n r w. level_made F bytes i n read made.0 r (climbs_moved n r refl moved w);

@@ -20,8 +20,8 @@ loop-scratch-init g c =
     let F : FieldMeaning = means (g.F.Ring.meaning w.field) (g.F.Field.extras w.field) in
     (c.requires, refl, length-replicate {A = ℕ} 32258 0, omega arith, before_none F (sheet_of w) _)
 
-pub overflow-add-steps : goal.overflow-add-steps
-overflow-add-steps g c =
+pub overflow_add-steps : goal.overflow_add-steps
+overflow_add-steps g c =
     let w = c.args.sheet.now in
     omega (arith, weight_small (g.F.Ring.meaning w.field) (sheet_of w) c.requires.good, c.loop-scratch.invariant.3)
 

@@ -13,12 +13,12 @@ pub returns : goal.returns
 returns g c =
     let m : RingMeaning = g.R.Ring.meaning c.args.ring.now in
     let f : List ℕ = c.args.f.now in
-    let row : List ℕ = c.derive-codes.new.row in
-    let some : 0 < length f = (taken_is_canonical m f c.in-ok-check.ensures).0.some_code in
-    let short : length f ≤ 128 = (taken_is_canonical m f c.in-ok-check.ensures).1 in
-    let long : length row ≡ max (length f - 1) 1 = c.derive-codes.ensures.sized ∙ length-take-le c.max.result (replicate 128 0) (omega arith) ∙ c.max.ensures in
+    let row : List ℕ = c.derive_codes.new.row in
+    let some : 0 < length f = (taken_is_canonical m f c.in_ok-check.ensures).0.some_code in
+    let short : length f ≤ 128 = (taken_is_canonical m f c.in_ok-check.ensures).1 in
+    let long : length row ≡ max (length f - 1) 1 = c.derive_codes.ensures.sized ∙ length-take-le c.max.result (replicate 128 0) (omega arith) ∙ c.max.ensures in
     delivered (operand_refusal m f) (or_zero (trimmed row)) (polynomial-derivative m f) c.args.out.now c.deliver.result c.deliver.new.out
-    c.in-ok-check.ensures
-    (row_polynomial_of row _ (max (length f - 1) 1) _ c.derive-codes.ensures long
+    c.in_ok-check.ensures
+    (row_polynomial_of row _ (max (length f - 1) 1) _ c.derive_codes.ensures long
     ∙ derivative_longer m (g.met.R.Ring.ring c.args.ring.now c.requires) f some)
     c.deliver.ensures

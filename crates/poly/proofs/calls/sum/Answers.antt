@@ -13,10 +13,10 @@ returns g c =
     let m : RingMeaning = g.R.Ring.meaning c.args.ring.now in
     let f : List ℕ = c.args.f.now in
     let h : List ℕ = c.args.g.now in
-    let row : List ℕ = c.add-codes.new.row in
-    let short-f : length f ≤ 128 = (taken_is_canonical m f c.in-ok-check.ensures).1 in
-    let short-h : length h ≤ 128 = (taken_is_canonical m h c.in-ok-check-2.ensures).1 in
-    let long : length row ≡ max (length f) (length h) = c.add-codes.ensures.sized ∙ length-take-le c.max.result (replicate 128 0) (omega arith) ∙ c.max.ensures in
+    let row : List ℕ = c.add_codes.new.row in
+    let short-f : length f ≤ 128 = (taken_is_canonical m f c.in_ok-check.ensures).1 in
+    let short-h : length h ≤ 128 = (taken_is_canonical m h c.in_ok-check-2.ensures).1 in
+    let long : length row ≡ max (length f) (length h) = c.add_codes.ensures.sized ∙ length-take-le c.max.result (replicate 128 0) (omega arith) ∙ c.max.ensures in
     delivered (operands_refusal m f h) (or_zero (trimmed row)) (polynomial-sum m f h) c.args.out.now c.deliver.result c.deliver.new.out
-    (both_none (operand_refusal m f) (operand_refusal m h) c.in-ok-check.ensures c.in-ok-check-2.ensures)
-    (row_polynomial_of row _ (max (length f) (length h)) _ c.add-codes.ensures long) c.deliver.ensures
+    (both_none (operand_refusal m f) (operand_refusal m h) c.in_ok-check.ensures c.in_ok-check-2.ensures)
+    (row_polynomial_of row _ (max (length f) (length h)) _ c.add_codes.ensures long) c.deliver.ensures

@@ -7,6 +7,6 @@ pub evaluate-requires : goal.evaluate-requires
 evaluate-requires g c = record {
   made = c.requires;
   codes = code_at (g.R.Ring.meaning c.args.ring.now) (g.met.R.Ring.ring c.args.ring.now c.requires) c.args.f.now
-      (taken_is_canonical (g.R.Ring.meaning c.args.ring.now) c.args.f.now c.in-ok-check.ensures).0;
+      (taken_is_canonical (g.R.Ring.meaning c.args.ring.now) c.args.f.now c.in_ok-check.ensures).0;
   point = omega arith;
 }

@@ -8,8 +8,8 @@ pub loop-u-init : goal.loop-u-init
 loop-u-init g c =
     let m : RingMeaning = g.F.Ring.meaning c.args.field.now in
     let L : RingLaws m = g.met.F.Ring.ring c.args.field.now c.requires.made in
-    reducing_none m L c.args.left c.args.right c.trimmed-length-n.result (omega arith) (omega arith) c.requires.first c.requires.second
-    c.trimmed-length-n.ensures.some c.trimmed-length-n.ensures.within c.trimmed-length-n.ensures.form
+    reducing_none m L c.args.left c.args.right c.trimmed_length-n.result (omega arith) (omega arith) c.requires.first c.requires.second
+    c.trimmed_length-n.ensures.some c.trimmed_length-n.ensures.within c.trimmed_length-n.ensures.form
 
 pub reduce-requires : goal.reduce-requires
 reduce-requires g c =
@@ -33,8 +33,8 @@ loop-u-smaller g c =
     let inverse : ℕ → Option ℕ = (g.F.Field.extras c.args.field.now).inverse in
     let last : ℕ = get_or c.loop-u.divisor (c.loop-u.n - 1) 0 in
     reducing_less m L c.args.left c.args.right c.loop-u.dividend c.loop-u.divisor c.loop-u.n c.loop-u.invariant
-    c.reduce.new.row c.reduce.ensures.0 c.trimmed-length-n-in-Some.result (omega arith)
-    c.trimmed-length-n-in-Some.ensures.some c.trimmed-length-n-in-Some.ensures.within c.trimmed-length-n-in-Some.ensures.form c.reduce.ensures.1
+    c.reduce.new.row c.reduce.ensures.0 c.trimmed_length-n-in-Some.result (omega arith)
+    c.trimmed_length-n-in-Some.ensures.some c.trimmed_length-n-in-Some.ensures.within c.trimmed_length-n-in-Some.ensures.form c.reduce.ensures.1
     (inverse_nonzero m inverse c.inverse.ensures.laws last (c.loop-u.invariant.divisor_codes (c.loop-u.n - 1)) c.in-Some.u (sym {b = inverse last} c.in-Some.ensures.value))
 
 pub loop-u-preserved : goal.loop-u-preserved
@@ -42,11 +42,11 @@ loop-u-preserved g c =
     let m : RingMeaning = g.F.Ring.meaning c.args.field.now in
     let L : RingLaws m = g.met.F.Ring.ring c.args.field.now c.requires.made in
     reducing_more m L c.args.left c.args.right c.loop-u.dividend c.loop-u.divisor c.loop-u.n c.loop-u.invariant
-    c.reduce.new.row c.reduce.ensures.0 c.trimmed-length-n-in-Some.result (omega arith)
-    c.trimmed-length-n-in-Some.ensures.some c.trimmed-length-n-in-Some.ensures.within c.trimmed-length-n-in-Some.ensures.form c.reduce.ensures.1
+    c.reduce.new.row c.reduce.ensures.0 c.trimmed_length-n-in-Some.result (omega arith)
+    c.trimmed_length-n-in-Some.ensures.some c.trimmed_length-n-in-Some.ensures.within c.trimmed_length-n-in-Some.ensures.form c.reduce.ensures.1
 
-pub make-monic-requires : goal.make-monic-requires
-make-monic-requires g c = record { made = c.requires.made; some = omega arith; codes = c.loop-u.invariant.dividend_codes }
+pub make_monic-requires : goal.make_monic-requires
+make_monic-requires g c = record { made = c.requires.made; some = omega arith; codes = c.loop-u.invariant.dividend_codes }
 
 pub returns : goal.returns
 returns g c =
@@ -57,6 +57,6 @@ returns g c =
     record {
       size = omega arith;
       divisor = reducing_all m L c.args.left c.args.right c.loop-u.dividend c.loop-u.divisor c.loop-u.n c.loop-u.invariant _
-          (inverse_none m inverse c.inverse.ensures.laws last (c.loop-u.invariant.divisor_codes (c.loop-u.n - 1)) (sym {b = inverse last} c.in-default.ensures.value))
-          c.make-monic.ensures;
+          (inverse_none m inverse c.inverse.ensures.laws last (c.loop-u.invariant.divisor_codes (c.loop-u.n - 1)) (sym {b = inverse last} c.in_default.ensures.value))
+          c.make_monic.ensures;
     }

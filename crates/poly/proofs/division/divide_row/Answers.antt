@@ -13,8 +13,8 @@ loop-i-preserved g c = λ L.
 pub loop-i-preserved-then-c-ne0 : goal.loop-i-preserved-then-c-ne0
 loop-i-preserved-then-c-ne0 g c = λ L.
     dividing_more (g.R.Ring.meaning c.args.ring.now) L c.args.row.now c.args.g.now c.loop-i.quotient c.loop-i.row c.args.u c.loop-i.i
-    c.requires.divisor c.requires.inverse (omega arith) (c.loop-i.invariant L) c.product-c.result c.opposite.result c.add-multiple.new.row
-    (omega (arith, c.requires.zeros.sized)) c.product-c.ensures c.opposite.ensures c.add-multiple.ensures
+    c.requires.divisor c.requires.inverse (omega arith) (c.loop-i.invariant L) c.product-c.result c.opposite.result c.add_multiple.new.row
+    (omega (arith, c.requires.zeros.sized)) c.product-c.ensures c.opposite.ensures c.add_multiple.ensures
 
 pub returns : goal.returns
 returns g c =

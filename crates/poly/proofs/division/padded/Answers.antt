@@ -6,5 +6,5 @@ use Rattle.poly.proofs.division.padded.Goals as goal
 
 pub returns : goal.returns
 returns c =
-    subst (λ (xs : List ℕ). IsRow (xs ++ drop (length c.args.f.now) (replicate 128 0)) 128 (coefficient c.args.f.now)) (sym c.copy-from-slice.ensures.after)
+    subst (λ (xs : List ℕ). IsRow (xs ++ drop (length c.args.f.now) (replicate 128 0)) 128 (coefficient c.args.f.now)) (sym c.copy_from_slice.ensures.after)
     (padded_row c.args.f.now 128 c.requires)

@@ -3,8 +3,8 @@ use Rattle.field.specs.Polynomial.{trimmed, or_zero}
 use Rattle.field.proofs.Rows.{zeros_row}
 use Rattle.poly.proofs.division.reduce.Goals as goal
 
-pub divide-row-requires : goal.divide-row-requires
-divide-row-requires g c = record {
+pub divide_row-requires : goal.divide_row-requires
+divide_row-requires g c = record {
   made = c.requires.made;
   divisor = c.requires.divisor;
   inverse = c.requires.inverse;
@@ -13,4 +13,4 @@ divide-row-requires g c = record {
 }
 
 pub returns : goal.returns
-returns g c = (or_zero (trimmed c.divide-row.new.quotient), c.divide-row.ensures)
+returns g c = (or_zero (trimmed c.divide_row.new.quotient), c.divide_row.ensures)

@@ -11,7 +11,7 @@ loop-i-init g c =
 pub loop-i-preserved : goal.loop-i-preserved
 loop-i-preserved g c =
     partial_more (g.R.Ring.meaning c.args.ring.now) (g.met.R.Ring.ring c.args.ring.now c.requires.made) c.args.f.now c.args.g.now
-    c.loop-i.row c.add-multiple.new.row c.loop-i.i (omega arith) c.loop-i.invariant (omega arith) c.add-multiple.ensures
+    c.loop-i.row c.add_multiple.new.row c.loop-i.i (omega arith) c.loop-i.invariant (omega arith) c.add_multiple.ensures
 
 pub returns : goal.returns
 returns g c =

@@ -16,8 +16,8 @@ returns g c =
       works = (
         t.0,
         t.1,
-        c.split-taken.ensures.split,
-        c.drop-guard.ensures ∙ wiped_same (2 * d * d) c.args.scratch.now c.split-taken.new.codes c.split-taken.auto.codes (λ k h. c.split-taken.ensures.past k (omega arith)),
+        c.split_taken.ensures.split,
+        c.drop-guard.ensures ∙ wiped_same (2 * d * d) c.args.scratch.now c.split_taken.new.codes c.split_taken.auto.codes (λ k h. c.split_taken.ensures.past k (omega arith)),
       );
       once = one_splitting;
       whole = whole_unsplittable;

@@ -4,14 +4,14 @@ use Rattle.split.proofs.Frames.{frame_one, frame_both, frame_pivot}
 use Rattle.split.proofs.Steps.{echelon_frame, partly_none, unit_codes}
 use Rattle.split.proofs.elimination.clear_row.Goals as goal
 
-pub overflow-add-d : goal.overflow-add-d
-overflow-add-d g c = let f = row_facts c.args.d c.args.e (omega arith) in search rules
+pub overflow_add-d : goal.overflow_add-d
+overflow_add-d g c = let f = row_facts c.args.d c.args.e (omega arith) in search rules
 
-pub overflow-mul-d : goal.overflow-mul-d
-overflow-mul-d g c = let f = row_facts c.args.d c.args.e (omega arith) in search rules
+pub overflow_mul-d : goal.overflow_mul-d
+overflow_mul-d g c = let f = row_facts c.args.d c.args.e (omega arith) in search rules
 
-pub write-unit-requires : goal.write-unit-requires
-write-unit-requires g c = let f = row_facts c.args.d c.args.e (omega arith) in omega arith
+pub write_unit-requires : goal.write_unit-requires
+write_unit-requires g c = let f = row_facts c.args.d c.args.e (omega arith) in omega arith
 
 pub reduce-requires : goal.reduce-requires
 reduce-requires g c =
@@ -19,13 +19,13 @@ reduce-requires g c =
     let L = g.met.R.Ring.ring c.args.ring.now c.requires.made in
     let d = c.args.d in
     let e = c.args.e in
-    let w = c.write-unit.ensures in
+    let w = c.write_unit.ensures in
     record {
       made = c.requires.made;
       space = omega arith;
       low = c.requires.low;
       row = c.requires.row;
-      below = unit_codes m L d e c.requires.low c.requires.row (2 * (d * d)) c.args.codes.now c.write-unit.new.codes (omega arith) w c.requires.below;
+      below = unit_codes m L d e c.requires.low c.requires.row (2 * (d * d)) c.args.codes.now c.write_unit.new.codes (omega arith) w c.requires.below;
       pivots = λ r h k. subst (λ (x : ℕ). x < d) (sym (frame_pivot d e r (frame_one d e w) (omega arith) (omega arith))) (c.requires.pivots r h k);
     }
 
@@ -36,8 +36,8 @@ returns g c =
     let d = c.args.d in
     let e = c.args.e in
     let start = c.args.codes.now in
-    let ready = c.write-unit.new.codes in
-    let w = c.write-unit.ensures in
+    let ready = c.write_unit.new.codes in
+    let w = c.write_unit.ensures in
     let f = c.reduce.ensures.frame in
     let lt : e - 1 < e = let h = c.requires.low in omega arith in
     record {

@@ -5,8 +5,8 @@ use Rattle.split.proofs.Rows.{row_end}
 use Rattle.split.proofs.Filled.{part_filled, part_filled_length, filled_codes, answer_same}
 use Rattle.split.proofs.elimination.dependent_row.Goals as goal
 
-pub search-rows-requires : goal.search-rows-requires
-search-rows-requires g c =
+pub search_rows-requires : goal.search_rows-requires
+search_rows-requires g c =
     let n = c.args.d * c.args.d in
     let old = c.args.codes.now in
     let L = g.met.F.Ring.ring c.args.field.now c.requires.made in
@@ -28,8 +28,8 @@ returns g c =
     let w = part_filled old c.clear.new.codes n (2 * n) (omega arith) c.requires.space c.clear.ensures in
     let start = put_mid n (2 * n - n) old c.clear.new.codes in
     record {
-      below = c.search-rows.ensures.below;
-      past = λ k h. c.search-rows.ensures.past k h ∙ w.after k (omega arith);
+      below = c.search_rows.ensures.below;
+      past = λ k h. c.search_rows.ensures.past k h ∙ w.after k (omega arith);
       answer = answer_same (g.F.Ring.meaning c.args.field.now) L d old start (λ j i h k. w.before (j * d + i) (omega (arith, row_end d j d h)))
-          c.search-rows.result c.search-rows.new.codes c.search-rows.ensures.answer;
+          c.search_rows.result c.search_rows.new.codes c.search_rows.ensures.answer;
     }

@@ -5,8 +5,8 @@ use Rattle.split.proofs.Frames.{frame_none, frame_both, frame_pivot}
 use Rattle.split.proofs.Steps.{echelon_frame, partly_more, subtracted_codes}
 use Rattle.split.proofs.elimination.reduce.Goals as goal
 
-pub clear-at-pivot-requires : goal.clear-at-pivot-requires
-clear-at-pivot-requires g c =
+pub clear_at_pivot-requires : goal.clear_at_pivot-requires
+clear_at_pivot-requires g c =
     let d = c.args.d in
     let e = c.args.e in
     let r = c.loop-r.r in
@@ -30,9 +30,9 @@ loop-r-preserved g c =
     let e = c.args.e in
     let r = c.loop-r.r in
     let codes = c.loop-r.codes in
-    let new = c.clear-at-pivot.new.codes in
+    let new = c.clear_at_pivot.new.codes in
     let inv = c.loop-r.invariant in
-    let sub = c.clear-at-pivot.ensures in
+    let sub = c.clear_at_pivot.ensures in
     let s : r ≡ r + 1 - 1 = omega arith in (
       frame_both inv.0 sub.frame,
       subtracted_codes m L d e c.requires.low c.requires.row (2 * (d * d)) r (cell codes d e (pivot_of codes d r)) codes new sub inv.1,

@@ -5,8 +5,8 @@ use Rattle.field.specs.Inverting.{inverse_found, inverse_stands}
 use Rattle.split.proofs.Steps.{scaled, scaled_codes}
 use Rattle.split.proofs.elimination.scale_to_one.Goals as goal
 
-pub offset-bounds-codes-e : goal.offset-bounds-codes-e
-offset-bounds-codes-e g c = let f = row_facts c.args.d c.args.e (omega arith) in search rules
+pub offset_bounds-codes-e : goal.offset_bounds-codes-e
+offset_bounds-codes-e g c = let f = row_facts c.args.d c.args.e (omega arith) in search rules
 
 pub bounds-codes-e : goal.bounds-codes-e
 bounds-codes-e g c = let f = row_facts c.args.d c.args.e (omega arith) in omega arith
@@ -14,8 +14,8 @@ bounds-codes-e g c = let f = row_facts c.args.d c.args.e (omega arith) in omega 
 pub scale-requires : goal.scale-requires
 scale-requires g c = let f = row_facts c.args.d c.args.e (omega arith) in record { made = c.requires.made; within = omega arith }
 
-pub overflow-mul-d : goal.overflow-mul-d
-overflow-mul-d g c = let f = row_facts c.args.d c.args.e (omega arith) in search rules
+pub overflow_mul-d : goal.overflow_mul-d
+overflow_mul-d g c = let f = row_facts c.args.d c.args.e (omega arith) in search rules
 
 pub scale-requires-in-Some : goal.scale-requires-in-Some
 scale-requires-in-Some g c = let f = row_facts c.args.d c.args.e (omega arith) in record { made = c.requires.made; within = omega arith }

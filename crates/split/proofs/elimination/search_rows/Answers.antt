@@ -7,8 +7,8 @@ use Rattle.split.proofs.Steps.{echelon_more}
 use Rattle.split.proofs.Independence.{independent, independent_all, same_combination}
 use Rattle.split.proofs.elimination.search_rows.Goals as goal
 
-pub offset-bounds-codes-e : goal.offset-bounds-codes-e
-offset-bounds-codes-e g c = let f = row_facts c.args.d c.rows.e (omega arith) in search rules
+pub offset_bounds-codes-e : goal.offset_bounds-codes-e
+offset_bounds-codes-e g c = let f = row_facts c.args.d c.rows.e (omega arith) in search rules
 
 pub bounds-codes-e : goal.bounds-codes-e
 bounds-codes-e g c = let f = row_facts c.args.d c.rows.e (omega arith) in omega arith
@@ -23,21 +23,21 @@ rows-preserved g c =
     let old = c.args.codes.now in
     let start = c.rows.codes in
     let found = c.loop-column.codes in
-    let new = c.scale-to-one.new.codes in
+    let new = c.scale_to_one.new.codes in
     let inv = c.rows.invariant in
     let low : 1 ≤ e = omega (arith, c.rows.auto.e) in
     let high : e < d = c.rows-test.true in
     let same = sym c.loop-column.invariant.0 in
     let hold : Codes m (d * d) old = λ k h. c.requires.below k (omega arith) in
-    let hfound : Codes m (2 * (d * d)) found = subst (λ (x : List ℕ). Codes m (2 * (d * d)) x) same c.clear-row.ensures.below in
-    let scaled = c.scale-to-one.ensures.scaled in
-    let frame = frame_both (subst (λ (x : List ℕ). Frame d e start x) same c.clear-row.ensures.frame) scaled.1.frame in
-    let clears : Clears m d e start found = subst (λ (x : List ℕ). Clears m d e start x) same c.clear-row.ensures.cleared in
+    let hfound : Codes m (2 * (d * d)) found = subst (λ (x : List ℕ). Codes m (2 * (d * d)) x) same c.clear_row.ensures.below in
+    let scaled = c.scale_to_one.ensures.scaled in
+    let frame = frame_both (subst (λ (x : List ℕ). Frame d e start x) same c.clear_row.ensures.frame) scaled.1.frame in
+    let clears : Clears m d e start found = subst (λ (x : List ℕ). Clears m d e start x) same c.clear_row.ensures.cleared in
     let cleared = clears old hold inv.0 (λ i h. inv.2 e i (omega arith) high h) in
     let s : e ≡ e + 1 - 1 = omega arith in (
       subst (λ (x : ℕ). Echelon m d old new x) s
           (echelon_more m L d e low high old found new scaled.0 hold hfound cleared.0 cleared.1 scaled.1),
-      c.scale-to-one.ensures.below,
+      c.scale_to_one.ensures.below,
       λ j i h k l. frame_row d e j i frame (omega arith) (omega arith) l ∙ inv.2 j i (omega arith) k l,
       λ k h. frame_past d e k high frame h ∙ inv.3 k h,
     )
@@ -57,9 +57,9 @@ returns-in-rows g c =
     let high : e < d = c.rows-test.true in
     let same = sym c.loop-column.invariant.0 in
     let hold : Codes m (d * d) old = λ k h. c.requires.below k (omega arith) in
-    let hnew : Codes m (2 * (d * d)) new = subst (λ (x : List ℕ). Codes m (2 * (d * d)) x) same c.clear-row.ensures.below in
-    let frame = subst (λ (x : List ℕ). Frame d e start x) same c.clear-row.ensures.frame in
-    let clears : Clears m d e start new = subst (λ (x : List ℕ). Clears m d e start x) same c.clear-row.ensures.cleared in
+    let hnew : Codes m (2 * (d * d)) new = subst (λ (x : List ℕ). Codes m (2 * (d * d)) x) same c.clear_row.ensures.below in
+    let frame = subst (λ (x : List ℕ). Frame d e start x) same c.clear_row.ensures.frame in
+    let clears : Clears m d e start new = subst (λ (x : List ℕ). Clears m d e start x) same c.clear_row.ensures.cleared in
     let part = (clears old hold inv.0 (λ i h. inv.2 e i (omega arith) high h)).1 in
     let least : Independent m d (e - 1) old = independent m L d (e - 1) old start (omega arith) hold inv.1 inv.0 in
     let vanishes = λ (i : ℕ) (h : i < d). sym (part.made i h) ∙ c.loop-column.invariant.1 i (omega arith) in

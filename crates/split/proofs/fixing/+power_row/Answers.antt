@@ -15,16 +15,16 @@ returns-then-n-eq1 g t c =
     let m : RingMeaning = g.R.Ring.meaning c.args.ring.now in
     let half : ℕ = c.args.n / 2 in
     let s : half + half + 1 ≡ c.args.n = omega arith in
-    subst (λ (k : ℕ). PowerRow m c.args.f.now k c.times-x.new.row) s
-    (c.times-x.ensures (half + half)
+    subst (λ (k : ℕ). PowerRow m c.args.f.now k c.times_x.new.row) s
+    (c.times_x.ensures (half + half)
     (power_sum m (g.met.R.Ring.ring c.args.ring.now c.requires.made) c.args.f.now c.requires.taken half half
-    c.power-row.new.row c.power-row.new.row c.square-row.new.row c.power-row.ensures c.power-row.ensures c.square-row.ensures))
+    c.power_row.new.row c.power_row.new.row c.square_row.new.row c.power_row.ensures c.power_row.ensures c.square_row.ensures))
 
 pub returns-else-n-eq1 : goal.returns-else-n-eq1
 returns-else-n-eq1 g t c =
     let m : RingMeaning = g.R.Ring.meaning c.args.ring.now in
     let half : ℕ = c.args.n / 2 in
     let s : half + half ≡ c.args.n = omega arith in
-    subst (λ (k : ℕ). PowerRow m c.args.f.now k c.square-row.new.row) s
+    subst (λ (k : ℕ). PowerRow m c.args.f.now k c.square_row.new.row) s
     (power_sum m (g.met.R.Ring.ring c.args.ring.now c.requires.made) c.args.f.now c.requires.taken half half
-    c.power-row.new.row c.power-row.new.row c.square-row.new.row c.power-row.ensures c.power-row.ensures c.square-row.ensures)
+    c.power_row.new.row c.power_row.new.row c.square_row.new.row c.power_row.ensures c.power_row.ensures c.square_row.ensures)

@@ -7,7 +7,7 @@ use Rattle.split.proofs.fixing.advance.Goals as goal
 pub loop-preserved : goal.loop-preserved
 loop-preserved g c n w =
     let m : RingMeaning = g.R.Ring.meaning c.args.ring.now in
-    subst (λ (k : ℕ). PowerRow m c.args.f.now k c.times-x.new.row) (add_assoc n c.loop.counter 1) (c.times-x.ensures (n + c.loop.counter) (c.loop.invariant n w))
+    subst (λ (k : ℕ). PowerRow m c.args.f.now k c.times_x.new.row) (add_assoc n c.loop.counter 1) (c.times_x.ensures (n + c.loop.counter) (c.loop.invariant n w))
 
 pub returns-after-loop : goal.returns-after-loop
 returns-after-loop g c n w =
@@ -18,4 +18,4 @@ returns-after-loop g c n w =
 pub returns-else-q-row : goal.returns-else-q-row
 returns-else-q-row g c n w =
     power_sum (g.R.Ring.meaning c.args.ring.now) (g.met.R.Ring.ring c.args.ring.now c.requires.made) c.args.f.now c.requires.taken n c.args.q
-    c.args.row.now c.args.x.now c.multiply-row.new.row w c.requires.power c.multiply-row.ensures
+    c.args.row.now c.args.x.now c.multiply_row.new.row w c.requires.power c.multiply_row.ensures

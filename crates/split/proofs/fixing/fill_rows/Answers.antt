@@ -7,8 +7,8 @@ use Rattle.split.proofs.Rows.{row_end}
 use Rattle.split.proofs.MatrixRows.{row_put_codes, row_put_rows, row_put_past}
 use Rattle.split.proofs.fixing.fill_rows.Goals as goal
 
-pub put-row-requires : goal.put-row-requires
-put-row-requires g c =
+pub put_row-requires : goal.put_row-requires
+put_row-requires g c =
     let d : ℕ = degree c.args.f.now in
     let long : length c.loop-j.row ≡ d = c.loop-j.invariant.0.sized in
     let h : c.loop-j.j < d = omega (arith, c.requires.start.sized) in
@@ -35,10 +35,10 @@ loop-j-preserved g c =
     let q : ℕ = c.args.q in
     let row : List ℕ = c.loop-j.row in
     let old : List ℕ = c.loop-j.codes in
-    let new : List ℕ = c.put-row.new.codes in
+    let new : List ℕ = c.put_row.new.codes in
     let inv = c.loop-j.invariant in
     let high : j < degree f = omega (arith, c.requires.start.sized) in
-    let put : Written old new (j * degree f) (degree f) (less_one_at m row j) = subst (λ (x : ℕ). Written old new (j * x) x (less_one_at m row j)) inv.0.sized c.put-row.ensures in
+    let put : Written old new (j * degree f) (degree f) (less_one_at m row j) = subst (λ (x : ℕ). Written old new (j * x) x (less_one_at m row j)) inv.0.sized c.put_row.ensures in
     let s : j * q + q ≡ (j + 1) * q = omega (arith, add-mul j 1 q, one-mul q) in (
       subst (λ (k : ℕ). PowerRow m f k c.advance.new.row) s (c.advance.ensures (j * q) inv.0),
       row_put_codes m L f c.requires.taken q j c.requires.order high row old new inv.0 put inv.1,

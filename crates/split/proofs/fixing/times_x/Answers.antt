@@ -16,8 +16,8 @@ loop-i-preserved g c =
     let row : List ℕ = c.args.row.now in
     let i : ℕ = c.loop-i.i in
     let below : c.if-i-eq0.below ≡ coefficient (0 ∷ row) (i - 1) = elim c.if-i-eq0.branch [
-      | then-i-eq0 w ↦ w.below_is ∙ below_first row (i - 1) w.if-i-eq0.true
-      | else-i-eq0 w ↦ w.below_is ∙ c.loop-i.invariant.kept (i - 1 - 1) (omega arith) ∙ below_next row (i - 1) w.if-i-eq0.false
+      | then-i-eq0 w ↦ w.below-is ∙ below_first row (i - 1) w.if-i-eq0.true
+      | else-i-eq0 w ↦ w.below-is ∙ c.loop-i.invariant.kept (i - 1 - 1) (omega arith) ∙ below_next row (i - 1) w.if-i-eq0.false
     ] in
     partly_more _ _ _ _ _ c.loop-i.invariant c.loop-i-test.true c.loop-i.auto.i c.loop-i.auto.row
     (c.sum.ensures ∙ ap₂ m.sum below (c.opposite.ensures ∙ ap m.opposite c.product.ensures))

@@ -12,12 +12,12 @@ use Rattle.split.proofs.kinds.split_taken.Given as given
 use Rattle.split.proofs.kinds.split_taken.Goals as goal
 use Rattle.split.proofs.kinds.split_taken.Goals.{else-n-eq1-via-then-n-eq1+else-derived-eq0, else-n-eq1-via-else-n-eq1}
 
-pub common-divisor-k-requires : goal.common-divisor-k-requires
-common-divisor-k-requires g c =
+pub common_divisor-k-requires : goal.common_divisor-k-requires
+common_divisor-k-requires g c =
     let m : RingMeaning = g.F.Ring.meaning c.args.field.now in
     let f : List ℕ = c.args.f.now in
     let t = c.requires.taken in
-    let L = c.characteristic-of-p.ensures.laws in
+    let L = c.characteristic_of-p.ensures.laws in
     let e : take (c.derive-n.result - 0) c.derive-n.new.out ≡ derivative m f = holds_part (derivative m f) c.derive-n.new.out c.derive-n.result c.derive-n.ensures in
     record {
       made = c.requires.made;
@@ -28,14 +28,14 @@ common-divisor-k-requires g c =
       room = omega arith;
     }
 
-pub write-pair-requires : goal.write-pair-requires
-write-pair-requires g c =
+pub write_pair-requires : goal.write_pair-requires
+write_pair-requires g c =
     let m : RingMeaning = g.F.Ring.meaning c.args.field.now in
-    let w = c.common-divisor-k.ensures in
-    let e : take (c.common-divisor-k.result - 0) c.common-divisor-k.new.out ≡ w.0 = holds_part w.0 c.common-divisor-k.new.out c.common-divisor-k.result w.2 in
+    let w = c.common_divisor-k.ensures in
+    let e : take (c.common_divisor-k.result - 0) c.common_divisor-k.new.out ≡ w.0 = holds_part w.0 c.common_divisor-k.new.out c.common_divisor-k.result w.2 in
     record {
       made = c.requires.made;
-      laws = c.characteristic-of-p.ensures.laws;
+      laws = c.characteristic_of-p.ensures.laws;
       taken = c.requires.taken;
       divisor = subst (Canonical m) (sym e) w.1.canonical;
       divides = subst (λ (x : List ℕ). Divides m x c.args.f.now) (sym e) w.1.divides_left;
@@ -47,11 +47,11 @@ pub returns-then-k-gt1 : goal.returns-then-k-gt1
 returns-then-k-gt1 g c =
     let m : RingMeaning = g.F.Ring.meaning c.args.field.now in
     let f : List ℕ = c.args.f.now in
-    let w = c.common-divisor-k.ensures in
+    let w = c.common_divisor-k.ensures in
     let e : take (c.derive-n.result - 0) c.derive-n.new.out ≡ derivative m f = holds_part (derivative m f) c.derive-n.new.out c.derive-n.result c.derive-n.ensures in
-    let k : take (c.common-divisor-k.result - 0) c.common-divisor-k.new.out ≡ w.0 = holds_part w.0 c.common-divisor-k.new.out c.common-divisor-k.result w.2 in
-    let pair : Paired m 2 f w.0 c.args.first.now c.args.second.now c.write-pair.result c.write-pair.new.first c.write-pair.new.second =
-    subst (λ (x : List ℕ). Paired m 2 f x c.args.first.now c.args.second.now c.write-pair.result c.write-pair.new.first c.write-pair.new.second) k c.write-pair.ensures in
+    let k : take (c.common_divisor-k.result - 0) c.common_divisor-k.new.out ≡ w.0 = holds_part w.0 c.common_divisor-k.new.out c.common_divisor-k.result w.2 in
+    let pair : Paired m 2 f w.0 c.args.first.now c.args.second.now c.write_pair.result c.write_pair.new.first c.write_pair.new.second =
+    subst (λ (x : List ℕ). Paired m 2 f x c.args.first.now c.args.second.now c.write_pair.result c.write_pair.new.first c.write_pair.new.second) k c.write_pair.ensures in
     record {
       split = record {
         into = repeated w.0 pair.other;
@@ -71,12 +71,12 @@ returns-then-k-gt1 g c =
       past = λ i h. refl;
     }
 
-pub split-simple-requires : goal.split-simple-requires
-split-simple-requires g c =
+pub split_simple-requires : goal.split_simple-requires
+split_simple-requires g c =
     let F : FieldMeaning = means (g.F.Ring.meaning c.args.field.now) (g.F.Field.extras c.args.field.now) in
     let f : List ℕ = c.args.f.now in
-    let L = c.characteristic-of-p.ensures.laws in
-    let w = c.common-divisor-k.ensures in
+    let L = c.characteristic_of-p.ensures.laws in
+    let w = c.common_divisor-k.ensures in
     let e : take (c.derive-n.result - 0) c.derive-n.new.out ≡ derivative F.ring f = holds_part (derivative F.ring f) c.derive-n.new.out c.derive-n.result c.derive-n.ensures in
     record {
       made = c.requires.made;

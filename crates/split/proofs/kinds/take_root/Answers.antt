@@ -5,8 +5,8 @@ use Rattle.split.specs.Splitting.{root, root_of}
 use Rattle.split.proofs.RootKind.{root_within, root_written}
 use Rattle.split.proofs.kinds.take_root.Goals as goal
 
-pub root-codes-requires : goal.root-codes-requires
-root-codes-requires g c =
+pub root_codes-requires : goal.root_codes-requires
+root_codes-requires g c =
     let t = c.requires.taken in
     let d = length c.args.f.now - 1 in
     record {
@@ -26,8 +26,8 @@ returns g c other =
       splits = (c.requires.kind, refl);
       answers = ap (λ (x : ℕ). (1, (length f - 1) / x, 0)) c.requires.prime;
       pieces = (
-        root_written F c.requires.laws f c.requires.taken c.requires.kind c.args.out.now c.root-codes.new.out c.args.p _ c.requires.prime
-            (ap (λ (x : ℕ). x / c.args.p) c.order.ensures) (omega arith) c.requires.room c.root-codes.ensures,
+        root_written F c.requires.laws f c.requires.taken c.requires.kind c.args.out.now c.root_codes.new.out c.args.p _ c.requires.prime
+            (ap (λ (x : ℕ). x / c.args.p) c.order.ensures) (omega arith) c.requires.room c.root_codes.ensures,
         refl,
       );
     }

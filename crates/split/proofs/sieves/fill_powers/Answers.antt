@@ -18,8 +18,8 @@ loop-j-init g c =
       λ k h. refl,
     )
 
-pub put-bare-requires : goal.put-bare-requires
-put-bare-requires g c =
+pub put_bare-requires : goal.put_bare-requires
+put_bare-requires g c =
     let d : ℕ = degree c.args.f.now in
     let h : c.loop-j.j < d = omega (arith, c.requires.start.sized) in
     subst (λ (x : ℕ). c.loop-j.j * x + x ≤ length c.loop-j.codes) (sym c.loop-j.invariant.0.sized) (omega (arith, row_end d c.loop-j.j d h, c.requires.space))
@@ -33,18 +33,18 @@ loop-j-preserved g c =
     let j : ℕ = c.loop-j.j in
     let row : List ℕ = c.loop-j.row in
     let old : List ℕ = c.loop-j.codes in
-    let new : List ℕ = c.put-bare.new.codes in
+    let new : List ℕ = c.put_bare.new.codes in
     let constants : List ℕ = c.loop-j.constants in
     let inv = c.loop-j.invariant in
     let high : j < degree f = omega (arith, c.requires.start.sized) in
     let room : degree f ≤ length constants = omega (arith, c.requires.room) in
-    let put : Written old new (j * degree f) (degree f) (bare row) = subst (λ (x : ℕ). Written old new (j * x) x (bare row)) inv.0.sized c.put-bare.ensures in
-    let n = c.multiply-row.ensures in (
+    let put : Written old new (j * degree f) (degree f) (bare row) = subst (λ (x : ℕ). Written old new (j * x) x (bare row)) inv.0.sized c.put_bare.ensures in
+    let n = c.multiply_row.ensures in (
       record { sized = n.sized; codes = n.codes },
       constants_coded m L f t j high row constants old new inv.0 room put inv.1,
       power_put_codes m L f t j high row constants old new inv.0 room put inv.2,
       λ q cq r. let k = inv.3 q cq r in
-          (power_next_of m L f t q row c.args.fixed.now c.multiply-row.new.row j cq k.0 r n, power_put_rows m L f t j high row constants old new inv.0 room put q k.0 k.1),
+          (power_next_of m L f t q row c.args.fixed.now c.multiply_row.new.row j cq k.0 r n, power_put_rows m L f t j high row constants old new inv.0 room put q k.0 k.1),
       λ i h. power_put_past m L f t j high row constants old new inv.0 room put i h ∙ inv.4 i h,
     )
 

@@ -6,8 +6,8 @@ use Rattle.worksheet.specs.Sheet.{place}
 use Rattle.worksheet.specs.Meaning.{part_of}
 use Rattle.worksheet.proofs.enter.place_monic.Goals as goal
 
-pub make-monic-requires : goal.make-monic-requires
-make-monic-requires g c =
+pub make_monic-requires : goal.make_monic-requires
+make_monic-requires g c =
     let n : ℕ = length c.args.f.now in
     let zeros : List ℕ = replicate 128 0 in
     let whole : n - 0 ≡ n = omega arith in
@@ -17,28 +17,28 @@ pub place-requires : goal.place-requires
 place-requires g c =
     let n : ℕ = length c.args.f.now in
     let zeros : List ℕ = replicate 128 0 in
-    let long = c.make-monic.auto.row ∙ length-take-le (n - 0) zeros (omega (arith, c.requires.short)) in
+    let long = c.make_monic.auto.row ∙ length-take-le (n - 0) zeros (omega (arith, c.requires.short)) in
     record {
       sized = c.requires.sized;
       some = omega (arith, long);
       short = omega (arith, long);
       counts = c.requires.counts;
-      room = c.requires.room c.if-f-gt-CODES-OF-CONSTANT.true;
+      room = c.requires.room c.if-f-gt-CODES_OF_CONSTANT.true;
     }
 
-pub returns-then-f-gt-CODES-OF-CONSTANT : goal.returns-then-f-gt-CODES-OF-CONSTANT
-returns-then-f-gt-CODES-OF-CONSTANT g c =
+pub returns-then-f-gt-CODES_OF_CONSTANT : goal.returns-then-f-gt-CODES_OF_CONSTANT
+returns-then-f-gt-CODES_OF_CONSTANT g c =
     let f : List ℕ = c.args.f.now in
     let positive : degree f ≡ 0 → ⊥ = λ e. omega arith in
     record {
       placed =
-          c.place.ensures.placed ∙ ap (λ (row : List ℕ). place row 1 (map part_of (vec_items c.args.parts.now))) c.make-monic.ensures
+          c.place.ensures.placed ∙ ap (λ (row : List ℕ). place row 1 (map part_of (vec_items c.args.parts.now))) c.make_monic.ensures
           ∙ sym (cond-false (eqb (degree f) 0) _ _ (ne_eqb (degree f) 0 positive));
       sized = c.place.ensures.sized;
       capacity = c.place.ensures.capacity;
     }
 
-pub returns-else-f-gt-CODES-OF-CONSTANT : goal.returns-else-f-gt-CODES-OF-CONSTANT
-returns-else-f-gt-CODES-OF-CONSTANT g c =
+pub returns-else-f-gt-CODES_OF_CONSTANT : goal.returns-else-f-gt-CODES_OF_CONSTANT
+returns-else-f-gt-CODES_OF_CONSTANT g c =
     let f : List ℕ = c.args.f.now in
     record { placed = sym (cond-true (eqb (degree f) 0) _ _ (eq-eqb (degree f) 0 (omega arith))); sized = c.requires.sized; capacity = refl }

@@ -16,17 +16,17 @@ use Rattle.worksheet.proofs.placing.place.Goals as goal
 use Rattle.worksheet.proofs.placing.place.Goals.{else-at-len-via-then-at-len+else-eq, else-at-len-via-else-at-len}
 use Rattle.std.proofs.lemmas.Bool.Decides.{Decides-eqb}
 
-pub overflow-add-index-mut : goal.overflow-add-index-mut
-overflow-add-index-mut c =
+pub overflow_add-index_mut : goal.overflow_add-index_mut
+overflow_add-index_mut c =
     let v = c.args.parts.now in
     let n = c.args.times in
-    omega (arith, each_at (λ (p : Part). p.times + n < 2 ^ 32) (vec_items v) c.position-at.result c.index-mut.result.now (omega (arith, v.ok.0)) c.index-mut.ensures.value c.requires.counts)
+    omega (arith, each_at (λ (p : Part). p.times + n < 2 ^ 32) (vec_items v) c.position-at.result c.index_mut.result.now (omega (arith, v.ok.0)) c.index_mut.ensures.value c.requires.counts)
 
 pub insert-requires : goal.insert-requires
 insert-requires c =
     let v = c.args.parts.now in
     let f = c.args.codes.now in
-    let at = c.position-at.ensures ∙ ap (λ xs. place_of f (map part_of xs)) c.as-slice.ensures.value in
+    let at = c.position-at.ensures ∙ ap (λ xs. place_of f (map part_of xs)) c.as_slice.ensures.value in
     omega (arith, place_within f (map part_of (vec_items v)), parts_length v)
 
 pub returns-then-eq : goal.returns-then-eq
@@ -37,17 +37,17 @@ returns-then-eq c =
     let f = c.args.codes.now in
     let n = c.args.times in
     let at = c.position-at.result in
-    let at-is : at ≡ place_of f ps = c.position-at.ensures ∙ ap (λ ys. place_of f (map part_of ys)) c.as-slice.ensures.value in
+    let at-is : at ≡ place_of f ps = c.position-at.ensures ∙ ap (λ ys. place_of f (map part_of ys)) c.as_slice.ensures.value in
     let i : at < length xs = omega (arith, v.ok.0) in
     let p = c.index.result.now in
-    let q = c.index-mut.result.now in
+    let q = c.index_mut.result.now in
     let here = sym (ap (part_at ps) at-is) ∙ at_part xs at p i c.index.ensures in
     let same = sym c.codes.ensures ∙ (slice_eq-Decides Decides-eqb _ _ _ c.eq.ensures).0 c.if-eq.true in
-    let fit = each_at Sized xs at q i c.index-mut.ensures.value c.requires.sized in
+    let fit = each_at Sized xs at q i c.index_mut.ensures.value c.requires.sized in
     record {
       placed =
           map-set part_of xs at _
-          ∙ ap (λ (y : Part). set ps at (grown n (part_of y))) (read_same xs at q p i c.index-mut.ensures.value c.index.ensures)
+          ∙ ap (λ (y : Part). set ps at (grown n (part_of y))) (read_same xs at q p i c.index_mut.ensures.value c.index.ensures)
           ∙ ap (λ k. set ps k (grown n (part_of p))) at-is ∙ sym (place_grows f n ps (part_of p) here same);
       sized = each_set Sized xs at _ c.requires.sized (record { some_code = fit.some_code; fits = fit.fits; array = fit.array });
       capacity = refl;
@@ -61,7 +61,7 @@ returns-else-at-len c =
     let f = c.args.codes.now in
     let n = c.args.times in
     let at = c.position-at.result in
-    let at-is : at ≡ place_of f ps = c.position-at.ensures ∙ ap (λ ys. place_of f (map part_of ys)) c.as-slice.ensures.value in
+    let at-is : at ≡ place_of f ps = c.position-at.ensures ∙ ap (λ ys. place_of f (map part_of ys)) c.as_slice.ensures.value in
     let ok : is_ok c.insert.result ≡ true = c.insert.ensures.succeeds c.requires.room in
     let apart : (p : PartMeaning) → part_at ps at ≡ Some p → p.codes ≡ f → ⊥ =
     λ p here same. elim c.else-at-len.branch [

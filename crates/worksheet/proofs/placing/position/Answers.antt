@@ -6,13 +6,13 @@ use Rattle.worksheet.proofs.PartsHeld.{blank, each_at}
 use Rattle.worksheet.proofs.PlaceOf.{place_more, place_stop, place_all}
 use Rattle.worksheet.proofs.placing.position.Goals as goal
 
-pub returns-then-not-stands-before : goal.returns-then-not-stands-before
-returns-then-not-stands-before c =
+pub returns-then-not-stands_before : goal.returns-then-not-stands_before
+returns-then-not-stands_before c =
     let f = c.args.codes.now in
     let xs = c.args.parts.now in
     let i = c.loop-i.i in
     let x = get_or xs i blank in
-    let b : before (part_of x).codes f ≡ false = sym (ap (λ r. before r f) c.codes.ensures) ∙ sym c.stands-before.ensures ∙ c.if-not-stands-before.true in
+    let b : before (part_of x).codes f ≡ false = sym (ap (λ r. before r f) c.codes.ensures) ∙ sym c.stands_before.ensures ∙ c.if-not-stands_before.true in
     omega (arith, c.loop-i.invariant, place_stop f xs i x (omega arith) (get_or_default xs i blank x (omega arith)) b)
 
 pub loop-i-preserved : goal.loop-i-preserved
@@ -21,7 +21,7 @@ loop-i-preserved c =
     let xs = c.args.parts.now in
     let i = c.loop-i.i in
     let x = get_or xs i blank in
-    let b : before (part_of x).codes f ≡ true = sym (ap (λ r. before r f) c.codes.ensures) ∙ sym c.stands-before.ensures ∙ c.if-not-stands-before.false in
+    let b : before (part_of x).codes f ≡ true = sym (ap (λ r. before r f) c.codes.ensures) ∙ sym c.stands_before.ensures ∙ c.if-not-stands_before.false in
     omega (arith, c.loop-i.invariant, place_more f xs i x (omega arith) (get_or_default xs i blank x (omega arith)) b)
 
 pub returns : goal.returns

@@ -5,7 +5,7 @@ use Rattle.worksheet.specs.Sheet.{is_open}
 use Rattle.worksheet.proofs.PartsHeld.{blank}
 use Rattle.worksheet.proofs.Tallies.{opens_more, opens_all}
 use Rattle.worksheet.proofs.reading.count_open.Goals as goal
-use Rattle.worksheet.proofs.reading.count_open.Goals.{then-is-open, else-is-open}
+use Rattle.worksheet.proofs.reading.count_open.Goals.{then-is_open, else-is_open}
 
 pub loop-part-preserved : goal.loop-part-preserved
 loop-part-preserved c =
@@ -13,10 +13,10 @@ loop-part-preserved c =
     let i = c.loop-part.part-index in
     let x = get_or xs i blank in
     let more = opens_more xs i x (omega arith) (get_or_default xs i blank x (omega arith)) in
-    let told = c.is-open.ensures in
-    elim c.if-is-open.branch [
-      | then-is-open w ↦ (let one : ◌≡◌ {A = ℕ} (cond (is_open x.mark) 1 0) 1 = cond-true (is_open x.mark) 1 0 (sym told ∙ w.if-is-open.true) in (omega (arith, c.loop-part.invariant.0, w.count-is), omega (arith, c.loop-part.invariant.1, w.count-is)))
-      | else-is-open w ↦ (let none : ◌≡◌ {A = ℕ} (cond (is_open x.mark) 1 0) 0 = cond-false (is_open x.mark) 1 0 (sym told ∙ w.if-is-open.false) in (omega (arith, c.loop-part.invariant.0, w.count-is), omega (arith, c.loop-part.invariant.1, w.count-is)))
+    let told = c.is_open.ensures in
+    elim c.if-is_open.branch [
+      | then-is_open w ↦ (let one : ◌≡◌ {A = ℕ} (cond (is_open x.mark) 1 0) 1 = cond-true (is_open x.mark) 1 0 (sym told ∙ w.if-is_open.true) in (omega (arith, c.loop-part.invariant.0, w.count-is), omega (arith, c.loop-part.invariant.1, w.count-is)))
+      | else-is_open w ↦ (let none : ◌≡◌ {A = ℕ} (cond (is_open x.mark) 1 0) 0 = cond-false (is_open x.mark) 1 0 (sym told ∙ w.if-is_open.false) in (omega (arith, c.loop-part.invariant.0, w.count-is), omega (arith, c.loop-part.invariant.1, w.count-is)))
     ]
 
 pub returns : goal.returns

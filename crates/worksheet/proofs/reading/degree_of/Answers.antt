@@ -14,14 +14,14 @@ sized_at xs i h s = each_at Sized xs i (get_or xs i blank) h (get_or_default xs 
 more_at : (xs : List Part) (i : ℕ) → i < length xs → Each Sized xs → total_degree (drop i (map part_of xs)) ≡ ((get_or xs i blank).length - 1) * (get_or xs i blank).times + total_degree (drop (i + 1) (map part_of xs))
 more_at xs i h s = degree_more xs i (get_or xs i blank) h (get_or_default xs i blank (get_or xs i blank) h) (sized_at xs i h s)
 
-pub overflow-sub-sum : goal.overflow-sub-sum
-overflow-sub-sum c = (sized_at c.args.parts.now c.loop-part.part-index (omega arith) c.requires.sized).some_code
+pub overflow_sub-sum : goal.overflow_sub-sum
+overflow_sub-sum c = (sized_at c.args.parts.now c.loop-part.part-index (omega arith) c.requires.sized).some_code
 
-pub overflow-mul-sum : goal.overflow-mul-sum
-overflow-mul-sum c = omega (arith, c.loop-part.invariant, c.requires.small, more_at c.args.parts.now c.loop-part.part-index (omega arith) c.requires.sized)
+pub overflow_mul-sum : goal.overflow_mul-sum
+overflow_mul-sum c = omega (arith, c.loop-part.invariant, c.requires.small, more_at c.args.parts.now c.loop-part.part-index (omega arith) c.requires.sized)
 
-pub overflow-add-sum : goal.overflow-add-sum
-overflow-add-sum c = omega (arith, c.loop-part.invariant, c.requires.small, more_at c.args.parts.now c.loop-part.part-index (omega arith) c.requires.sized)
+pub overflow_add-sum : goal.overflow_add-sum
+overflow_add-sum c = omega (arith, c.loop-part.invariant, c.requires.small, more_at c.args.parts.now c.loop-part.part-index (omega arith) c.requires.sized)
 
 pub loop-part-preserved : goal.loop-part-preserved
 loop-part-preserved c = omega (arith, c.loop-part.invariant, more_at c.args.parts.now c.loop-part.part-index (omega arith) c.requires.sized)

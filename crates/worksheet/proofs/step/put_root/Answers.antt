@@ -8,8 +8,8 @@ use Rattle.worksheet.proofs.PartLists.{some_injective}
 use Rattle.worksheet.proofs.PartsHeld.{at_part, each_removed, map_removed}
 use Rattle.worksheet.proofs.step.put_root.Goals as goal
 
-pub overflow-mul-part : goal.overflow-mul-part
-overflow-mul-part c =
+pub overflow_mul-part : goal.overflow_mul-part
+overflow_mul-part c =
     let v = c.args.parts.now in
     let part : Part = c.remove-part.result in
     omega (arith, c.requires.count (part_of part) (at_part (vec_items v) c.args.number part (omega (arith, v.ok.0)) c.remove-part.ensures.value))

@@ -9,7 +9,7 @@ pub returns-then-number-parts : goal.returns-then-number-parts
 returns-then-number-parts c =
     let xs = c.args.parts.now in
     let i = c.args.number in
-    c.is-open.ensures ∙ sym (ap some_open (at_part xs i (get_or xs i blank) (omega arith) (get_or_default xs i blank (get_or xs i blank) (omega arith))))
+    c.is_open.ensures ∙ sym (ap some_open (at_part xs i (get_or xs i blank) (omega arith) (get_or_default xs i blank (get_or xs i blank) (omega arith))))
 
 pub returns-else-number-parts : goal.returns-else-number-parts
 returns-else-number-parts c =

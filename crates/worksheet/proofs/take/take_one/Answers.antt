@@ -8,10 +8,10 @@ use Rattle.worksheet.proofs.PartsHeld.{at_part, each_at, each_set, each_removed,
 use Rattle.worksheet.proofs.TakenAt.{lowered, lowered_at, removed_at}
 use Rattle.worksheet.proofs.take.take_one.Goals as goal
 
-pub overflow-sub-index-mut : goal.overflow-sub-index-mut
-overflow-sub-index-mut c =
+pub overflow_sub-index_mut : goal.overflow_sub-index_mut
+overflow_sub-index_mut c =
     let v = c.args.parts.now in
-    let is = ap (λ (x : Part). x.times) (read_same (vec_items v) c.args.number c.index.result.now c.index-mut.result.now (omega (arith, v.ok.0)) c.index.ensures c.index-mut.ensures.value) in
+    let is = ap (λ (x : Part). x.times) (read_same (vec_items v) c.args.number c.index.result.now c.index_mut.result.now (omega (arith, v.ok.0)) c.index.ensures c.index_mut.ensures.value) in
     omega (arith, is)
 
 pub returns-then-index-gt1 : goal.returns-then-index-gt1
@@ -22,11 +22,11 @@ returns-then-index-gt1 c =
     let i = c.args.number in
     let within : i < length xs = omega (arith, v.ok.0) in
     let p : Part = c.index.result.now in
-    let q : Part = c.index-mut.result.now in
-    let fit = each_at Sized xs i q within c.index-mut.ensures.value c.requires.sized in
+    let q : Part = c.index_mut.result.now in
+    let fit = each_at Sized xs i q within c.index_mut.ensures.value c.requires.sized in
     record {
       lowered =
-          map-set part_of xs i _ ∙ ap (λ (y : Part). set ps i (lowered (part_of y))) (read_same xs i q p within c.index-mut.ensures.value c.index.ensures)
+          map-set part_of xs i _ ∙ ap (λ (y : Part). set ps i (lowered (part_of y))) (read_same xs i q p within c.index_mut.ensures.value c.index.ensures)
           ∙ sym (lowered_at ps i (part_of p) (at_part xs i p within c.index.ensures) (lt-leb p.times 1 c.if-index-gt1.true));
       sized = each_set Sized xs i _ c.requires.sized (record { some_code = fit.some_code; fits = fit.fits; array = fit.array });
       capacity = refl;

@@ -6,8 +6,8 @@ use Rattle.field.proofs.PowerInverses.{exponent_small}
 use Rattle.extension.proofs.layers.ExtensionField.exponent.Goals as goal
 
 -- both factors are at most 16
-pub overflow-mul-result : goal.overflow-mul-result
-overflow-mul-result g c =
+pub overflow_mul-result : goal.overflow_mul-result
+overflow_mul-result g c =
     let F : FieldMeaning = means (g.F.Ring.meaning c.args.self.now.base) (g.F.Field.extras c.args.self.now.base) in
     let j : c.exponent.result ≤ 16 = omega (arith, c.exponent.ensures.value, exponent_small F c.requires.laws) in
     let k : c.from.result ≤ 16 = omega (arith, c.from.ensures, (made_range _ F c.args.self.now.k c.args.self.now.m c.requires).top) in

@@ -11,9 +11,9 @@ use Rattle.worksheet.proofs.parts.Worksheet.check_entry.Goals.{else-last-eq0-via
 pub returns : goal.returns
 returns g c =
     let f : List ℕ = c.args.f.now in
-    let total = c.degree-of.ensures ∙ ap (λ xs. total_degree (map part_of xs)) c.as-slice.ensures.value in
+    let total = c.degree_of.ensures ∙ ap (λ xs. total_degree (map part_of xs)) c.as_slice.ensures.value in
     let nonzero : is_zero f ≡ false = elim c.else-last-eq0.branch [
       | else-last-eq0-via-then-last-eq0+else-f-last-eq0 w ↦ and_right (eqb (length f) 1) (eqb (leading f) 0) (ne_eqb (leading f) 0 w.if-f-last-eq0.false)
       | else-last-eq0-via-else-last-eq0 w ↦ and_left (eqb (length f) 1) (eqb (leading f) 0) (ne_eqb (length f) 1 (λ e. w.if-last-eq0.false (omega arith)))
     ] in
-    entry_passes (g.F.Ring.meaning c.args.self.now.field) (sheet_of c.args.self.now) f c.in-ok-check.ensures nonzero (omega arith)
+    entry_passes (g.F.Ring.meaning c.args.self.now.field) (sheet_of c.args.self.now) f c.in_ok-check.ensures nonzero (omega arith)

@@ -12,12 +12,12 @@ use Rattle.worksheet.proofs.Runs.{call_good}
 use Rattle.worksheet.proofs.PartsHeld.{each_held, parts_length}
 use Rattle.worksheet.proofs.parts.Worksheet.enter.Goals as goal
 
-pub place-monic-requires : goal.place-monic-requires
-place-monic-requires g c =
+pub place_monic-requires : goal.place_monic-requires
+place_monic-requires g c =
     let w = c.args.self.now in
     let m = g.F.Ring.meaning w.field in
     let f : List ℕ = c.args.f.now in
-    let taken = entry_taken m (sheet_of w) f c.in-ok-check-entry.ensures in
+    let taken = entry_taken m (sheet_of w) f c.in_ok-check_entry.ensures in
     let polynomial = taken_is_canonical m f taken.0 in
     record {
       base = c.requires.base;
@@ -34,17 +34,17 @@ returns g c =
     let F : FieldMeaning = means (g.F.Ring.meaning w.field) (g.F.Field.extras w.field) in
     let f : List ℕ = c.args.f.now in
     let t : SheetMeaning = with_entry F (sheet_of w) f in
-    let is : ◌≡◌ {A = SheetMeaning} (sheet_of (record { field = w.field; unit = c.product-unit.result; parts = c.place-monic.new.parts })) t =
-    ap₂ (λ (u : ℕ) (ps : List PartMeaning). record { unit = u; parts = ps }) c.product-unit.ensures c.place-monic.ensures.placed in
-    let entered : Entered F (sheet_of w) f (Ok (length f - 1)) (sheet_of (record { field = w.field; unit = c.product-unit.result; parts = c.place-monic.new.parts })) =
-    (c.in-ok-check-entry.ensures, refl, is) in
+    let is : ◌≡◌ {A = SheetMeaning} (sheet_of (record { field = w.field; unit = c.product-unit.result; parts = c.place_monic.new.parts })) t =
+    ap₂ (λ (u : ℕ) (ps : List PartMeaning). record { unit = u; parts = ps }) c.product-unit.ensures c.place_monic.ensures.placed in
+    let entered : Entered F (sheet_of w) f (Ok (length f - 1)) (sheet_of (record { field = w.field; unit = c.product-unit.result; parts = c.place_monic.new.parts })) =
+    (c.in_ok-check_entry.ensures, refl, is) in
     record {
       made = record {
         base = c.requires.base;
         laws = c.requires.laws;
         good = call_good F c.requires.laws (enter f (Ok (length f - 1))) (sheet_of w) _ c.requires.good entered;
-        sized = c.place-monic.ensures.sized;
-        room = omega (arith, c.place-monic.ensures.capacity, c.requires.room);
+        sized = c.place_monic.ensures.sized;
+        room = omega (arith, c.place_monic.ensures.capacity, c.requires.room);
       };
       same = refl;
       entered = entered;

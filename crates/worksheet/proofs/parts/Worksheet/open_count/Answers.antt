@@ -4,4 +4,4 @@ use Rattle.worksheet.specs.Meaning.{part_of}
 use Rattle.worksheet.proofs.parts.Worksheet.open_count.Goals as goal
 
 pub returns : goal.returns
-returns g c = c.count-open.ensures ∙ ap (λ xs. open_count (map part_of xs)) c.as-slice.ensures.value
+returns g c = c.count_open.ensures ∙ ap (λ xs. open_count (map part_of xs)) c.as_slice.ensures.value

@@ -20,15 +20,15 @@ returns-then-out-part g c =
     let fit = each_at Sized (vec_items w.parts) i p within c.index.ensures c.requires.sized in
     (read_short (sheet_of w) i c.args.out.now (part_of p) (at_part (vec_items w.parts) i p within c.index.ensures) (omega (arith, row_length p fit)), refl)
 
-pub copy-from-slice-requires : goal.copy-from-slice-requires
-copy-from-slice-requires g c =
+pub copy_from_slice-requires : goal.copy_from_slice-requires
+copy_from_slice-requires g c =
     let v = c.args.self.now.parts in
     let p : Part = c.index.result.now in
     let fit = each_at Sized (vec_items v) c.args.number p (omega (arith, v.ok.0)) c.index.ensures c.requires.sized in
     omega (arith, length-take-le p.length c.args.out.now (omega arith), row_length p fit, ap length c.codes.ensures)
 
-pub overflow-sub-result : goal.overflow-sub-result
-overflow-sub-result g c =
+pub overflow_sub-result : goal.overflow_sub-result
+overflow_sub-result g c =
     let v = c.args.self.now.parts in
     (each_at Sized (vec_items v) c.args.number c.index.result.now (omega (arith, v.ok.0)) c.index.ensures c.requires.sized).some_code
 
@@ -43,6 +43,6 @@ returns g c =
     let here = at_part (vec_items w.parts) i p within c.index.ensures in
     let long = row_length p fit in (
       read_fits (sheet_of w) i out (part_of p) here (omega (arith, long)),
-      gives_at _ (part_of p) out _ _ here (ap (λ n. n - 1) (sym long)) (ap₂ (λ (xs : List ℕ) (n : ℕ). xs ++ drop n out) (c.copy-from-slice.ensures.after ∙ c.codes.ensures) (sym long)),
+      gives_at _ (part_of p) out _ _ here (ap (λ n. n - 1) (sym long)) (ap₂ (λ (xs : List ℕ) (n : ℕ). xs ++ drop n out) (c.copy_from_slice.ensures.after ∙ c.codes.ensures) (sym long)),
       tells_at _ (part_of p) here,
     )

@@ -9,16 +9,16 @@ use Rattle.worksheet.proofs.Replacing.{without_at, settle_at}
 use Rattle.worksheet.proofs.Pieces.{begins_row, the_root, the_pair, the_whole, chosen_within, few_times}
 use Rattle.worksheet.proofs.parts.Worksheet.replace.Goals as goal
 
-pub overflow-add-d : goal.overflow-add-d
-overflow-add-d g c = omega (arith, (the_root c.requires.made c.requires.chosen c.if-kind-eq-ROOT-KIND.true).begins.short)
+pub overflow_add-d : goal.overflow_add-d
+overflow_add-d g c = omega (arith, (the_root c.requires.made c.requires.chosen c.if-kind-eq-ROOT_KIND.true).begins.short)
 
-pub slice-bounds-put-root-end : goal.slice-bounds-put-root-end
-slice-bounds-put-root-end g c = omega (arith, (the_root c.requires.made c.requires.chosen c.if-kind-eq-ROOT-KIND.true).begins.fits)
+pub slice_bounds-put_root-end : goal.slice_bounds-put_root-end
+slice_bounds-put_root-end g c = omega (arith, (the_root c.requires.made c.requires.chosen c.if-kind-eq-ROOT_KIND.true).begins.fits)
 
-pub put-root-requires : goal.put-root-requires
-put-root-requires g c =
+pub put_root-requires : goal.put_root-requires
+put_root-requires g c =
     let chosen = c.requires.chosen in
-    let it = the_root c.requires.made chosen c.if-kind-eq-ROOT-KIND.true in
+    let it = the_root c.requires.made chosen c.if-kind-eq-ROOT_KIND.true in
     let long = ap length (begins_row it.begins) in
     record {
       sized = c.requires.made.sized;
@@ -31,24 +31,24 @@ put-root-requires g c =
           (subst (λ (n : ℕ). chosen.part.times * n ≤ 127) (sym c.characteristic-p.ensures.value) it.count);
     }
 
-pub settle-at-requires : goal.settle-at-requires
-settle-at-requires g c = record { sized = c.requires.made.sized; within = chosen_within c.requires.made c.requires.chosen }
+pub settle_at-requires : goal.settle_at-requires
+settle_at-requires g c = record { sized = c.requires.made.sized; within = chosen_within c.requires.made c.requires.chosen }
 
-pub overflow-add-d-else-kind-eq-WHOLE-KIND : goal.overflow-add-d-else-kind-eq-WHOLE-KIND
-overflow-add-d-else-kind-eq-WHOLE-KIND g c = omega (arith, (the_pair c.requires.made c.requires.chosen c.if-kind-eq-ROOT-KIND.false c.if-kind-eq-WHOLE-KIND.false).left_begins.short)
+pub overflow_add-d-else-kind-eq-WHOLE_KIND : goal.overflow_add-d-else-kind-eq-WHOLE_KIND
+overflow_add-d-else-kind-eq-WHOLE_KIND g c = omega (arith, (the_pair c.requires.made c.requires.chosen c.if-kind-eq-ROOT_KIND.false c.if-kind-eq-WHOLE_KIND.false).left_begins.short)
 
-pub slice-bounds-put-pieces-end : goal.slice-bounds-put-pieces-end
-slice-bounds-put-pieces-end g c = omega (arith, (the_pair c.requires.made c.requires.chosen c.if-kind-eq-ROOT-KIND.false c.if-kind-eq-WHOLE-KIND.false).left_begins.fits)
+pub slice_bounds-put_pieces-end : goal.slice_bounds-put_pieces-end
+slice_bounds-put_pieces-end g c = omega (arith, (the_pair c.requires.made c.requires.chosen c.if-kind-eq-ROOT_KIND.false c.if-kind-eq-WHOLE_KIND.false).left_begins.fits)
 
-pub overflow-add-e : goal.overflow-add-e
-overflow-add-e g c = omega (arith, (the_pair c.requires.made c.requires.chosen c.if-kind-eq-ROOT-KIND.false c.if-kind-eq-WHOLE-KIND.false).right_begins.short)
+pub overflow_add-e : goal.overflow_add-e
+overflow_add-e g c = omega (arith, (the_pair c.requires.made c.requires.chosen c.if-kind-eq-ROOT_KIND.false c.if-kind-eq-WHOLE_KIND.false).right_begins.short)
 
-pub slice-bounds-put-pieces-end-else-kind-eq-WHOLE-KIND : goal.slice-bounds-put-pieces-end-else-kind-eq-WHOLE-KIND
-slice-bounds-put-pieces-end-else-kind-eq-WHOLE-KIND g c = omega (arith, (the_pair c.requires.made c.requires.chosen c.if-kind-eq-ROOT-KIND.false c.if-kind-eq-WHOLE-KIND.false).right_begins.fits)
+pub slice_bounds-put_pieces-end-else-kind-eq-WHOLE_KIND : goal.slice_bounds-put_pieces-end-else-kind-eq-WHOLE_KIND
+slice_bounds-put_pieces-end-else-kind-eq-WHOLE_KIND g c = omega (arith, (the_pair c.requires.made c.requires.chosen c.if-kind-eq-ROOT_KIND.false c.if-kind-eq-WHOLE_KIND.false).right_begins.fits)
 
-pub put-pieces-requires : goal.put-pieces-requires
-put-pieces-requires g c =
-    let it = the_pair c.requires.made c.requires.chosen c.if-kind-eq-ROOT-KIND.false c.if-kind-eq-WHOLE-KIND.false in
+pub put_pieces-requires : goal.put_pieces-requires
+put_pieces-requires g c =
+    let it = the_pair c.requires.made c.requires.chosen c.if-kind-eq-ROOT_KIND.false c.if-kind-eq-WHOLE_KIND.false in
     let left = ap length (begins_row it.left_begins) in
     let right = ap length (begins_row it.right_begins) in
     record {
@@ -62,13 +62,13 @@ put-pieces-requires g c =
       room = omega (arith, it.room, c.requires.made.room, parts_length c.args.self.now.parts);
     }
 
-pub returns-then-kind-eq-ROOT-KIND : goal.returns-then-kind-eq-ROOT-KIND
-returns-then-kind-eq-ROOT-KIND g c =
+pub returns-then-kind-eq-ROOT_KIND : goal.returns-then-kind-eq-ROOT_KIND
+returns-then-kind-eq-ROOT_KIND g c =
     let ps = (sheet_of c.args.self.now).parts in
     let i = c.args.number in
     let chosen = c.requires.chosen in
     let p : PartMeaning = chosen.part in
-    let it = the_root c.requires.made chosen c.if-kind-eq-ROOT-KIND.true in
+    let it = the_root c.requires.made chosen c.if-kind-eq-ROOT_KIND.true in
     record {
       replaced = record {
         part = p;
@@ -78,20 +78,20 @@ returns-then-kind-eq-ROOT-KIND g c =
         answers = it.answers;
         unit = refl;
         parts =
-            c.put-root.ensures.placed p chosen.here
+            c.put_root.ensures.placed p chosen.here
             ∙ ap₂ (λ (f : List ℕ) (n : ℕ). place f n (remove ps i)) (begins_row it.begins) (ap (λ (n : ℕ). p.times * n) c.characteristic-p.ensures.value)
             ∙ ap (place it.piece _) (sym (without_at ps i p chosen.here c.requires.made.good.ordered));
       };
-      sized = c.put-root.ensures.sized;
-      capacity = c.put-root.ensures.capacity;
+      sized = c.put_root.ensures.sized;
+      capacity = c.put_root.ensures.capacity;
       same = refl;
     }
 
-pub returns-then-kind-eq-WHOLE-KIND : goal.returns-then-kind-eq-WHOLE-KIND
-returns-then-kind-eq-WHOLE-KIND g c =
+pub returns-then-kind-eq-WHOLE_KIND : goal.returns-then-kind-eq-WHOLE_KIND
+returns-then-kind-eq-WHOLE_KIND g c =
     let chosen = c.requires.chosen in
     let p : PartMeaning = chosen.part in
-    let it = the_whole c.requires.made chosen c.if-kind-eq-WHOLE-KIND.true in
+    let it = the_whole c.requires.made chosen c.if-kind-eq-WHOLE_KIND.true in
     record {
       replaced = record {
         part = p;
@@ -107,13 +107,13 @@ returns-then-kind-eq-WHOLE-KIND g c =
       same = refl;
     }
 
-pub returns-else-kind-eq-WHOLE-KIND : goal.returns-else-kind-eq-WHOLE-KIND
-returns-else-kind-eq-WHOLE-KIND g c =
+pub returns-else-kind-eq-WHOLE_KIND : goal.returns-else-kind-eq-WHOLE_KIND
+returns-else-kind-eq-WHOLE_KIND g c =
     let ps = (sheet_of c.args.self.now).parts in
     let i = c.args.number in
     let chosen = c.requires.chosen in
     let p : PartMeaning = chosen.part in
-    let it = the_pair c.requires.made chosen c.if-kind-eq-ROOT-KIND.false c.if-kind-eq-WHOLE-KIND.false in
+    let it = the_pair c.requires.made chosen c.if-kind-eq-ROOT_KIND.false c.if-kind-eq-WHOLE_KIND.false in
     record {
       replaced = record {
         part = p;
@@ -123,12 +123,12 @@ returns-else-kind-eq-WHOLE-KIND g c =
         answers = it.answers;
         unit = refl;
         parts =
-            c.put-pieces.ensures.placed p chosen.here
+            c.put_pieces.ensures.placed p chosen.here
             ∙ ap₂ (λ (f h : List ℕ). place h p.times (place f p.times (remove ps i))) (begins_row it.left_begins) (begins_row it.right_begins)
             ∙ ap (λ (qs : List PartMeaning). place it.right p.times (place it.left p.times qs)) (sym (without_at ps i p chosen.here c.requires.made.good.ordered))
             ∙ sym (it.replaces ps);
       };
-      sized = c.put-pieces.ensures.sized;
-      capacity = c.put-pieces.ensures.capacity;
+      sized = c.put_pieces.ensures.sized;
+      capacity = c.put_pieces.ensures.capacity;
       same = refl;
     }

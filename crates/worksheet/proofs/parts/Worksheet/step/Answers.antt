@@ -18,8 +18,8 @@ use Rattle.worksheet.proofs.parts.Worksheet.step.Goals as goal
 moved : (xs ys : List Part) (i : ℕ) (p : PartMeaning) → ys ≡ xs → part_at (map part_of ys) i ≡ next_open (map part_of ys) → part_at (map part_of xs) i ≡ Some p → next_open (map part_of xs) ≡ Some p
 moved xs ys i p e h here = sym (subst (λ (zs : List Part). part_at (map part_of zs) i ≡ next_open (map part_of zs)) e h) ∙ here
 
-pub returns-in-default-split : goal.returns-in-default-split
-returns-in-default-split g c =
+pub returns-in_default-split : goal.returns-in_default-split
+returns-in_default-split g c =
     let w = c.args.self.now in
     let m = g.F.Ring.meaning w.field in
     let xs : List Part = vec_items w.parts in
@@ -27,9 +27,9 @@ returns-in-default-split g c =
     let i : ℕ = c.in-Some.number in
     let p : Part = c.index.result.now in
     let f : List ℕ = c.codes.result.now in
-    let here = at_part xs i p (omega (arith, ap length c.as-slice.ensures.value, c.in-Some.ensures.0)) c.index.ensures in
-    let next = moved xs c.as-slice.result.now i (part_of p) c.as-slice.ensures.value c.in-Some.ensures.1 here in
-    let refused = c.in-default-split.ensures.works in
+    let here = at_part xs i p (omega (arith, ap length c.as_slice.ensures.value, c.in-Some.ensures.0)) c.index.ensures in
+    let next = moved xs c.as_slice.result.now i (part_of p) c.as_slice.ensures.value c.in-Some.ensures.1 here in
+    let refused = c.in_default-split.ensures.works in
     let taken : Taken m f = subst (Taken m) (sym c.codes.ensures) (part_taken m (map part_of xs) c.requires.good.parts c.requires.good.fits i (part_of p) here) in
     let short : length scratch < scratch_size f = elim (cases_lt (length scratch) (scratch_size f)) [ inl h ↦ h | inr h ↦ absurd (refused.0 taken h) ] in
     record {
@@ -46,13 +46,13 @@ replace-requires g c =
     let xs : List Part = vec_items w.parts in
     let i : ℕ = c.in-Some.number in
     let p : Part = c.index.result.now in
-    let here = at_part xs i p (omega (arith, ap length c.as-slice.ensures.value, c.in-Some.ensures.0)) c.index.ensures in
+    let here = at_part xs i p (omega (arith, ap length c.as_slice.ensures.value, c.in-Some.ensures.0)) c.index.ensures in
     record {
       made = c.requires;
       chosen = record {
         part = part_of p;
         here = here;
-        next = moved xs c.as-slice.result.now i (part_of p) c.as-slice.ensures.value c.in-Some.ensures.1 here;
+        next = moved xs c.as_slice.result.now i (part_of p) c.as_slice.ensures.value c.in-Some.ensures.1 here;
         split = subst (λ (f : List ℕ). Split F f (replicate 128 0) (replicate 128 0) c.in-Some-split.told c.split.new.first c.split.new.second) c.codes.ensures c.in-Some-split.ensures.works.2;
       };
     }
@@ -66,8 +66,8 @@ returns g c =
     let after : List ℕ = c.split.new.scratch in
     let i : ℕ = c.in-Some.number in
     let p : Part = c.index.result.now in
-    let here = at_part xs i p (omega (arith, ap length c.as-slice.ensures.value, c.in-Some.ensures.0)) c.index.ensures in
-    let next = moved xs c.as-slice.result.now i (part_of p) c.as-slice.ensures.value c.in-Some.ensures.1 here in
+    let here = at_part xs i p (omega (arith, ap length c.as_slice.ensures.value, c.in-Some.ensures.0)) c.index.ensures in
+    let next = moved xs c.as_slice.result.now i (part_of p) c.as_slice.ensures.value c.in-Some.ensures.1 here in
     let works = c.in-Some-split.ensures.works in
     let last = c.replace.new.self in
     let same : last.field ≡ w.field = c.replace.ensures.same in

@@ -12,32 +12,32 @@ use Rattle.worksheet.proofs.Refusals.{take_open, take_as_read, read_some}
 use Rattle.worksheet.proofs.Runs.{call_good}
 use Rattle.worksheet.proofs.parts.Worksheet.take.Goals as goal
 
-pub take-one-requires : goal.take-one-requires
-take-one-requires g c =
+pub take_one-requires : goal.take_one-requires
+take_one-requires g c =
     let w = c.args.self.now in
     let i = c.args.number in
     let within : i < vec_len w.parts = elim (cases_lt i (vec_len w.parts)) [
       | inl h ↦ h
-      | inr h ↦ absurd (read_some (sheet_of w) i c.args.out.now c.in-ok-degree.ensures.0 (no_part (vec_items w.parts) i (omega (arith, w.parts.ok.0))))
+      | inr h ↦ absurd (read_some (sheet_of w) i c.args.out.now c.in_ok-degree.ensures.0 (no_part (vec_items w.parts) i (omega (arith, w.parts.ok.0))))
     ] in
     record { sized = c.requires.sized; within = within }
 
-pub returns-then-open-at : goal.returns-then-open-at
-returns-then-open-at g c =
+pub returns-then-open_at : goal.returns-then-open_at
+returns-then-open_at g c =
     let w = c.args.self.now in
     let i = c.args.number in
     let opened : some_open (part_at (sheet_of w).parts i) ≡ true =
-    sym (c.open-at.ensures ∙ ap (λ xs. some_open (part_at (map part_of xs) i)) c.as-slice.ensures.value) ∙ c.if-open-at.true in
+    sym (c.open_at.ensures ∙ ap (λ xs. some_open (part_at (map part_of xs) i)) c.as_slice.ensures.value) ∙ c.if-open_at.true in
     record { made = c.requires; same = refl; taken = (take_open (sheet_of w) i c.args.out.now opened, refl, refl); kept = refl }
 
-pub returns-in-err-degree : goal.returns-in-err-degree
-returns-in-err-degree g c =
+pub returns-in_err-degree : goal.returns-in_err-degree
+returns-in_err-degree g c =
     let w = c.args.self.now in
     let i = c.args.number in
     let closed : some_open (part_at (sheet_of w).parts i) ≡ false =
-    sym (c.open-at.ensures ∙ ap (λ xs. some_open (part_at (map part_of xs) i)) c.as-slice.ensures.value) ∙ c.if-open-at.false in
-    let p = err_from_is_err_and c.from-residual.result c.from-residual.ensures.1 in
-    let refused = c.in-err-degree.ensures in
+    sym (c.open_at.ensures ∙ ap (λ xs. some_open (part_at (map part_of xs) i)) c.as_slice.ensures.value) ∙ c.if-open_at.false in
+    let p = err_from_is_err_and c.from_residual.result c.from_residual.ensures.1 in
+    let refused = c.in_err-degree.ensures in
     rw (p.1, p.2) (record { made = c.requires; same = refl; taken = (take_as_read (sheet_of w) i c.args.out.now closed ∙ refused.0, refl, refused.1); kept = refl })
 
 pub returns : goal.returns
@@ -48,17 +48,17 @@ returns g c =
     let out : List ℕ = c.args.out.now in
     let after : List ℕ = c.read.new.out in
     let closed : some_open (part_at (sheet_of w).parts i) ≡ false =
-    sym (c.open-at.ensures ∙ ap (λ xs. some_open (part_at (map part_of xs) i)) c.as-slice.ensures.value) ∙ c.if-open-at.false in
-    let ok = c.in-ok-degree.ensures in
-    let taken : Taken (sheet_of w) i out (Ok c.in-ok-degree.degree) (sheet_of (record { field = w.field; unit = w.unit; parts = c.take-one.new.parts })) after =
-    (take_as_read (sheet_of w) i out closed ∙ ok.0, ok.1, refl, c.take-one.ensures.lowered) in
+    sym (c.open_at.ensures ∙ ap (λ xs. some_open (part_at (map part_of xs) i)) c.as_slice.ensures.value) ∙ c.if-open_at.false in
+    let ok = c.in_ok-degree.ensures in
+    let taken : Taken (sheet_of w) i out (Ok c.in_ok-degree.degree) (sheet_of (record { field = w.field; unit = w.unit; parts = c.take_one.new.parts })) after =
+    (take_as_read (sheet_of w) i out closed ∙ ok.0, ok.1, refl, c.take_one.ensures.lowered) in
     record {
       made = record {
         base = c.requires.base;
         laws = c.requires.laws;
-        good = call_good F c.requires.laws (take i out (Ok c.in-ok-degree.degree) after) (sheet_of w) _ c.requires.good taken;
-        sized = c.take-one.ensures.sized;
-        room = omega (arith, c.take-one.ensures.capacity, c.requires.room);
+        good = call_good F c.requires.laws (take i out (Ok c.in_ok-degree.degree) after) (sheet_of w) _ c.requires.good taken;
+        sized = c.take_one.ensures.sized;
+        room = omega (arith, c.take_one.ensures.capacity, c.requires.room);
       };
       same = refl;
       taken = taken;
