@@ -1,6 +1,6 @@
 -- In a field of q elements the inverse of a code but 0 is its power q - 2, and the exponent is small.
 -- Main statements: inverse_is_power, exponent_small.
-use Rattle.std.proofs.Common.{◌≡◌, ℕ, zero, suc, ◌-◌, ◌^◌, ◌<◌, ◌≤◌, Some, Option, sym, refl, ap, ◌∙◌, subst, pow-suc as power-suc, mul-one as times_one, arith}
+use Rattle.std.proofs.Common.{◌≡◌, ℕ, zero, suc, ◌-◌, ◌^◌, ◌<◌, ◌≤◌, Some, Option, sym, refl, ap, ◌∙◌, subst, pow-suc as power_suc, mul-one as times_one, arith}
 use native.Mathlib.Decide.{dec_lt}
 use native.Mathlib.Nat.{pow-le-pow_left, pow-le-pow_right}
 use Rattle.algebra.specs.Powers.{pow}
@@ -14,7 +14,7 @@ use Rattle.field.specs.Scalars.{Code, CodeRing, code_path, code_field, zero_code
 
 one_power : (n : ℕ) → 1 ^ n ≡ 1
 one_power zero = refl
-one_power (suc n) = power-suc 1 n ∙ times_one (1 ^ n) ∙ one_power n
+one_power (suc n) = power_suc 1 n ∙ times_one (1 ^ n) ∙ one_power n
 
 module _ (F : FieldMeaning) (L : FieldLaws F) where
   abbrev m : RingMeaning

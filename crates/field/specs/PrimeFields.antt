@@ -5,7 +5,7 @@ use Rattle.std.proofs.Common.{◌∙◌, mod-lt, mod-eq_of_lt, mul-one, add-one,
 use Rattle.std.proofs.Math.Nat.{mod_self, zero-mod, mod-add-mod, add-mod, pow-zero, pow-succ', div-add-mod}
 use Rattle.std.proofs.Math.Decide.{dec_le, ℕ_discrete}
 use borrow.Author.Tests.{leb-true, eqb-false, clash}
-use Rattle.algebra.proofs.Laws.{mul_assoc, mul_one as ring-mul-one, neg_unique, neg-⊗, ⊗-neg}
+use Rattle.algebra.proofs.Laws.{mul_assoc, mul_one as ring_mul_one, neg_unique, neg-⊗, ⊗-neg}
 use Rattle.field.specs.Checks.{seek}
 use Rattle.field.specs.Ring.{RingMeaning, RingLaws, one, total, multiple}
 use Rattle.field.specs.Field.{FieldLaws, Characteristic}
@@ -98,7 +98,7 @@ module _ (p : ℕ) (N : NoDivisors p) (high : p ≤ 256) where
   invertible : (n a : ℕ) → a ≤ n → 0 < a → a < p → (u : K) × (residue a ⊗ u ≡ 𝟙)
   invertible zero a h k l = absurd (omega arith)
   invertible (suc n) a h k l = elim (ℕ_discrete a 1) [
-    | yes e ↦ (𝟙, ring-mul-one (CodeRing m L) (residue a) ∙ ap residue e ∙ residue_one)
+    | yes e ↦ (𝟙, ring_mul_one (CodeRing m L) (residue a) ∙ ap residue e ∙ residue_one)
     | no e ↦ smaller e (invertible n (p % a))
   ]
     where

@@ -8,7 +8,7 @@ use Rattle.field.specs.Polynomial.{degree, polynomial}
 use Rattle.field.specs.Checks.{below}
 use Rattle.field.specs.Rows.{Written}
 use Rattle.field.specs.Coefficients.{below_length, map_below_at}
-use Rattle.field.proofs.Rows.{row_polynomial as row-polynomial-is}
+use Rattle.field.proofs.Rows.{row_polynomial as row_polynomial_is}
 use Rattle.field.proofs.Writing.{written_outside}
 use Rattle.split.specs.Matrix.{Codes}
 use Rattle.split.specs.Calls.{Taken}
@@ -19,7 +19,7 @@ use Rattle.split.proofs.Modulo.{gap_row}
 
 -- polynomials with the same coefficients
 pub polynomial_same : (n : ℕ) (c e : ℕ → ℕ) → ((i : ℕ) → i < n → c i ≡ e i) → polynomial n c ≡ polynomial n e
-polynomial_same n c e h = row-polynomial-is (map c (below n)) n e (record { sized = length-map (below n) c ∙ below_length n; at = λ i l. map_below_at c n i l ∙ h i l })
+polynomial_same n c e h = row_polynomial_is (map c (below n)) n e (record { sized = length-map (below n) c ∙ below_length n; at = λ i l. map_below_at c n i l ∙ h i l })
 
 module _ (m : RingMeaning) (L : RingLaws m) (f : List ℕ) (t : Taken m f) (q j : ℕ) (order : q ≡ m.order) (high : j < degree f)
     (row old new : List ℕ) (w : PowerRow m f (j * q) row) (put : Written old new (j * degree f) (degree f) (less_one_at m row j)) where

@@ -1,6 +1,6 @@
 -- What the four kinds give: a p-th root, two proper factors, or that the polynomial does not split.
 -- Main statements: kind_root, kind_repeated, kind_shifted, kind_whole; root_splits, pair_splits.
-use Rattle.std.proofs.Common.{◌≡◌, ℕ, zero, suc, ◌+◌, ◌*◌, ◌<◌, ◌≤◌, List, length, sym, refl, ap, ◌∙◌, subst, ap₂, inl, inr, mul_comm as times-comm, mul-le-mul_left, arith}
+use Rattle.std.proofs.Common.{◌≡◌, ℕ, zero, suc, ◌+◌, ◌*◌, ◌<◌, ◌≤◌, List, length, sym, refl, ap, ◌∙◌, subst, ap₂, inl, inr, mul_comm as times_comm, mul-le-mul_left, arith}
 use Rattle.algebra.specs.Ring.{Ring, Field}
 use Rattle.algebra.specs.Powers.{pow}
 use Rattle.algebra.specs.Finite.{FiniteField}
@@ -21,7 +21,7 @@ use Rattle.field.specs.Scalars.{Code, CodeScalars, code_field, code_finite, scal
 use Rattle.field.specs.Polynomials.{P, poly_of, poly_of_at, list_of, poly_of_list, list_of_canonical, poly_of_size, size_degree, positive_size, given, is_zero, poly_one, poly_constant, poly_product, poly_difference, poly_derivative, poly_monic, monic_poly, derivative_canonical, difference_canonical, constant_canonical}
 use Rattle.field.specs.Forms.{polynomial_canonical}
 use Rattle.field.proofs.Factors.{common_size, product_degree, cofactor_monic}
-use Rattle.split.proofs.Fixed.{fixed_from, smaller as lower-smaller}
+use Rattle.split.proofs.Fixed.{fixed_from, smaller as lower_smaller}
 use Rattle.split.specs.Splitting.{root, repeated, shifted, whole, SplitsInto, root_of, LeastFixed, SmallestShift}
 
 module _ (F : FieldMeaning) (L : FieldLaws F) where
@@ -156,7 +156,7 @@ module _ (F : FieldMeaning) (L : FieldLaws F) where
             same : poly (root_of F f) ≡ p_root E (poly f)
             same = given m L.ring (length f) _ (p_root E (poly f)) (omega (arith, w.1, smaller w.0 w.2, cf.some_code)) (λ i.
                 ap (λ (x : Code m L.ring). x.0) (p_root_coef E (poly f) i) ∙ power_codes m L.ring (share E) _
-                ∙ ap₂ (power m) (poly_of_at m L.ring f cf (i * F.characteristic) ∙ ap (coefficient f) (times-comm i F.characteristic)) (share_is E))
+                ∙ ap₂ (power m) (poly_of_at m L.ring f cf (i * F.characteristic) ∙ ap (coefficient f) (times_comm i F.characteristic)) (share_is E))
 
             at : degree (root_of F f) ≡ w.0
             at = omega (arith, poly_of_size m L.ring _ canonical, ap size same, w.1)
@@ -197,7 +197,7 @@ module _ (F : FieldMeaning) (L : FieldLaws F) where
         smaller = omega (
           arith,
           common_size F L f k g cf (difference_canonical m L.ring Q (constant w)) (omega (arith, long)) shift.divisor ∙ ap (λ (x : P m L.ring). size (gcd_of G (poly f) x).gcd) same,
-          shift_smaller G m.order E.listing (poly f) (poly Q) (scalar m L.ring w) Q_long (lower-smaller F L f Q cf least.fixed) (gcd_of G (poly f) (minus (CodeScalars m L.ring) (poly Q) (scalar m L.ring w))),
+          shift_smaller G m.order E.listing (poly f) (poly Q) (scalar m L.ring w) Q_long (lower_smaller F L f Q cf least.fixed) (gcd_of G (poly f) (minus (CodeScalars m L.ring) (poly Q) (scalar m L.ring w))),
         )
 
     -- kind 4

@@ -1,6 +1,6 @@
 -- An accepted step keeps what a worksheet holds and lowers its weight; it settles a part exactly if that does not split.
 -- Main statements: step_kept, step_settles.
-use Rattle.std.proofs.Common.{◌≡◌, ℕ, ◌+◌, ◌-◌, ◌*◌, ◌<◌, ◌≤◌, true, ◌↔◌, List, [], ◌∷◌, ◌++◌, Some, Ok, sym, refl, ap, ◌∙◌, subst, ap₂, inl, inr, mul_comm as times-comm, mul-le-mul_left, arith}
+use Rattle.std.proofs.Common.{◌≡◌, ℕ, ◌+◌, ◌-◌, ◌*◌, ◌<◌, ◌≤◌, true, ◌↔◌, List, [], ◌∷◌, ◌++◌, Some, Ok, sym, refl, ap, ◌∙◌, subst, ap₂, inl, inr, mul_comm as times_comm, mul-le-mul_left, arith}
 use Rattle.std.proofs.lemmas.Bool.{cond-true}
 use Rattle.algebra.specs.Ring.{Ring}
 use Rattle.algebra.specs.Powers.{pow}
@@ -73,7 +73,7 @@ module _ (F : FieldMeaning) (L : FieldLaws F) (Known : List ℕ → Type 0) wher
       worths =
           worth_place R value r _ rest
           ∙ ap (λ (x : P m L.ring). R.◌⊗◌ x (product_of_parts rest))
-          (ap (pow R (value r)) (times-comm p.times F.characteristic) ∙ pow_mul R (value r) F.characteristic p.times ∙ ap (λ (x : P m L.ring). pow R x p.times) k.multiplies)
+          (ap (pow R (value r)) (times_comm p.times F.characteristic) ∙ pow_mul R (value r) F.characteristic p.times ∙ ap (λ (x : P m L.ring). pow R x p.times) k.multiplies)
           ∙ sym w.worths;
       lighter = omega (arith, weight_place r (p.times * F.characteristic) rest, w.weights, asks_open p open-part, k.degrees, k.positive, mul-le-mul_left (degree r) k.two);
     }

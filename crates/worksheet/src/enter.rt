@@ -3,7 +3,7 @@ ghost use Rattle.std.specs.Prelude.{◌≡◌, ◌+◌, ◌^◌, ◌<◌, ◌≤
 ghost use Rattle.field.specs.Field.{means};
 ghost use Rattle.field.specs.Polynomial.{degree};
 ghost use Rattle.poly.specs.Faults.{most_codes};
-ghost use Rattle.worksheet.specs.Sheet.{Each, place as placed-in};
+ghost use Rattle.worksheet.specs.Sheet.{Each, place as placed_in};
 ghost use Rattle.worksheet.specs.Faults.{enter_refusal, Passes};
 ghost use Rattle.worksheet.specs.Calls.{Entered, monic_of};
 ghost use Rattle.worksheet.specs.Meaning.{part_of, sheet_of, Sized, SheetMade};
@@ -64,7 +64,7 @@ fn place_monic<F: Field>(field: &F, f: &[u16], parts: &mut Vec<Part>)
     requires sized { Each Sized parts.old.items }
     requires counts { Each (λ p. p.times + 1 < 2 ^ 32) parts.old.items }
     requires room { 1 < length f.now → vec_len parts.old < vec_capacity parts.old }
-    ensures placed { map part_of parts.new.items ≡ (if nat_eq (degree f.now) 0 then map part_of parts.old.items else placed-in (monic_of (means (F.meaning field.now) (F.extras field.now)) f.now) 1 (map part_of parts.old.items)) }
+    ensures placed { map part_of parts.new.items ≡ (if nat_eq (degree f.now) 0 then map part_of parts.old.items else placed_in (monic_of (means (F.meaning field.now) (F.extras field.now)) f.now) 1 (map part_of parts.old.items)) }
     ensures sized { Each Sized parts.new.items }
     ensures capacity { vec_capacity parts.new ≡ vec_capacity parts.old }
 {

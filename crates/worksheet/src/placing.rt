@@ -1,7 +1,7 @@
 // Placing a part among others, in their order.
 ghost use Rattle.std.specs.Prelude.{◌≡◌, ◌+◌, ◌^◌, ◌<◌, ◌≤◌, map, length, vec_len, vec_capacity};
 ghost use Rattle.poly.specs.Faults.{most_codes};
-ghost use Rattle.worksheet.specs.Sheet.{Each, place as placed-in};
+ghost use Rattle.worksheet.specs.Sheet.{Each, place as placed_in};
 ghost use Rattle.worksheet.specs.Places.{place_of};
 ghost use Rattle.worksheet.specs.Meaning.{part_of, Sized};
 
@@ -28,7 +28,7 @@ pub(crate) fn place(parts: &mut Vec<Part>, codes: &[u16], times: u32)
     requires short { length codes.now ≤ most_codes }
     requires counts { Each (λ p. p.times + times < 2 ^ 32) parts.old.items }
     requires room { vec_len parts.old < vec_capacity parts.old }
-    ensures placed { map part_of parts.new.items ≡ placed-in codes.now times (map part_of parts.old.items) }
+    ensures placed { map part_of parts.new.items ≡ placed_in codes.now times (map part_of parts.old.items) }
     ensures sized { Each Sized parts.new.items }
     ensures capacity { vec_capacity parts.new ≡ vec_capacity parts.old }
 {

@@ -3,7 +3,7 @@ ghost use Rattle.std.specs.Prelude.{◌≡◌, ◌*◌, ◌<◌, ◌≤◌, map,
 ghost use Rattle.std.specs.List.{remove};
 ghost use Rattle.field.specs.Field.{means};
 ghost use Rattle.poly.specs.Faults.{most_codes};
-ghost use Rattle.worksheet.specs.Sheet.{PartMeaning, Each, most_degree, part_at, next_open, place as placed-in, settled as settled_part};
+ghost use Rattle.worksheet.specs.Sheet.{PartMeaning, Each, most_degree, part_at, next_open, place as placed_in, settled as settled_part};
 ghost use Rattle.worksheet.specs.Places.{Chosen};
 ghost use Rattle.worksheet.specs.Calls.{Replaces, Stepped};
 ghost use Rattle.worksheet.specs.Meaning.{part_of, sheet_of, Sized, SheetMade};
@@ -96,7 +96,7 @@ fn put_root(parts: &mut Vec<Part>, number: usize, p: u32, row: &[u16])
     requires short { length row.now ≤ most_codes }
     requires counts { Each (λ x. x.times ≤ most_degree) parts.old.items }
     requires count { (q : PartMeaning) → part_at (map part_of parts.old.items) number ≡ Some q → q.times * p ≤ most_degree }
-    ensures placed { (q : PartMeaning) → part_at (map part_of parts.old.items) number ≡ Some q → map part_of parts.new.items ≡ placed-in row.now (q.times * p) (remove (map part_of parts.old.items) number) }
+    ensures placed { (q : PartMeaning) → part_at (map part_of parts.old.items) number ≡ Some q → map part_of parts.new.items ≡ placed_in row.now (q.times * p) (remove (map part_of parts.old.items) number) }
     ensures sized { Each Sized parts.new.items }
     ensures capacity { vec_capacity parts.new ≡ vec_capacity parts.old }
 {
@@ -114,7 +114,7 @@ fn put_pieces(parts: &mut Vec<Part>, number: usize, g: &[u16], h: &[u16])
     requires short_right { length h.now ≤ most_codes }
     requires counts { Each (λ x. x.times ≤ most_degree) parts.old.items }
     requires room { vec_len parts.old < vec_capacity parts.old }
-    ensures placed { (q : PartMeaning) → part_at (map part_of parts.old.items) number ≡ Some q → map part_of parts.new.items ≡ placed-in h.now q.times (placed-in g.now q.times (remove (map part_of parts.old.items) number)) }
+    ensures placed { (q : PartMeaning) → part_at (map part_of parts.old.items) number ≡ Some q → map part_of parts.new.items ≡ placed_in h.now q.times (placed_in g.now q.times (remove (map part_of parts.old.items) number)) }
     ensures sized { Each Sized parts.new.items }
     ensures capacity { vec_capacity parts.new ≡ vec_capacity parts.old }
 {

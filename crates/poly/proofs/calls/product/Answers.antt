@@ -1,6 +1,6 @@
 use Rattle.std.proofs.Common.{ℕ, ◌+◌, ◌-◌, List, length, ◌∙◌, arith, le-leb}
 use Rattle.field.specs.Ring.{RingMeaning}
-use Rattle.field.specs.Polynomial.{or_zero, trimmed, product as polynomial-product}
+use Rattle.field.specs.Polynomial.{or_zero, trimmed, product as polynomial_product}
 use Rattle.field.proofs.Rows.{row_polynomial, zeros_row}
 use Rattle.poly.specs.declared.fault.PolyFault.TheVariants.{LongProduct}
 use Rattle.poly.specs.Faults.{operand_refusal, operands_refusal, factors_refusal}
@@ -22,7 +22,7 @@ returns g c =
     let f : List ℕ = c.args.f.now in
     let h : List ℕ = c.args.g.now in
     let row : List ℕ = c.multiply_codes.new.row in
-    delivered (factors_refusal m f h) (or_zero (trimmed row)) (polynomial-product m f h) c.args.out.now c.deliver.result c.deliver.new.out
+    delivered (factors_refusal m f h) (or_zero (trimmed row)) (polynomial_product m f h) c.args.out.now c.deliver.result c.deliver.new.out
     (both_none (operands_refusal m f h) _ (both_none (operand_refusal m f) (operand_refusal m h) c.in_ok-check.ensures c.in_ok-check-2.ensures)
     (passes _ LongProduct (le-leb (length f + length h) 129 (omega arith))))
     (row_polynomial row (length f + length h - 1) _ c.multiply_codes.ensures

@@ -24,7 +24,7 @@ place-requires c =
     record {
       sized = subst (Each Sized) (sym items) (each_removed Sized xs i c.requires.sized);
       some = c.requires.some_left;
-      short = c.requires.short-left;
+      short = c.requires.short_left;
       counts = subst (Each (λ (x : Part). x.times + n < 2 ^ 32)) (sym items) (each_map few (λ (x : Part). x.times + n < 2 ^ 32) (λ x h. omega (arith, limit)) (remove xs i) (each_removed few xs i c.requires.counts));
       room = omega (arith, v.ok.1);
     }
@@ -44,7 +44,7 @@ place-requires-2 c =
     record {
       sized = c.place.ensures.sized;
       some = c.requires.some_right;
-      short = c.requires.short-right;
+      short = c.requires.short_right;
       counts = each_held (λ (q : PartMeaning). q.times ≤ 254) (λ (x : Part). x.times + n < 2 ^ 32) (λ x h. omega (arith, limit)) (vec_items c.place.new.parts) (subst (Each (λ (q : PartMeaning). q.times ≤ 254)) (sym c.place.ensures.placed) turned);
       room = omega (arith, parts_length c.place.new.parts, parts_length c.remove-part.new.self, ap length c.place.ensures.placed, place_longer g n (map part_of rest));
     }

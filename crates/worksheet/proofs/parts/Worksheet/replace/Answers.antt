@@ -55,9 +55,9 @@ put_pieces-requires g c =
       sized = c.requires.made.sized;
       within = chosen_within c.requires.made c.requires.chosen;
       some_left = omega (arith, left, it.left_begins.long, it.left_begins.some);
-      short-left = omega (arith, left, it.left_begins.long, it.left_begins.short);
+      short_left = omega (arith, left, it.left_begins.long, it.left_begins.short);
       some_right = omega (arith, right, it.right_begins.long, it.right_begins.some);
-      short-right = omega (arith, right, it.right_begins.long, it.right_begins.short);
+      short_right = omega (arith, right, it.right_begins.long, it.right_begins.short);
       counts = few_times c.requires.made;
       room = omega (arith, it.room, c.requires.made.room, parts_length c.args.self.now.parts);
     }
