@@ -13,7 +13,7 @@ loop-code-preserved g c plain =
     let xs = c.args.codes.now in
     let i = c.loop-code.code-index in
     let so_far = c.loop-code.invariant plain in
-    let next = c.in_ok-write.ensures.shows so_far.plain refl in
+    let next = c.in_ok-write.ensures.writes so_far.plain refl in
     has_written_of_eq g.W.Write.write_str_gives _ _ _ _ (spaced_more xs i (get_or xs i 0) (omega arith) (get_or_default xs i 0 (get_or xs i 0) (omega arith)))
     (has_written_append g.W.Write.write_str_gives _ _ _ _ _ so_far next)
 

@@ -6,7 +6,7 @@ use Rattle.job.proofs.text.write_part.Goals as goal
 
 pub returns : goal.returns
 returns g c plain ok =
-    let head = c.in_ok-write.ensures.shows plain refl in
+    let head = c.in_ok-write.ensures.writes plain refl in
     let numbers = c.in_ok-write_codes.ensures head.plain refl in
     let end = c.write_str.ensures.writes numbers.plain ok in
     has_written_of_eq g.W.Write.write_str_gives _ _ _ _

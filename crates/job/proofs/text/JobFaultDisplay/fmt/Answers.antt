@@ -5,7 +5,7 @@ use Rattle.job.proofs.text.JobFaultDisplay.fmt.Goals as goal
 
 pub returns-clause-writes : goal.returns-clause-writes
 returns-clause-writes g c plain ok =
-    let head = c.in_ok-write.ensures.shows plain refl in
+    let head = c.in_ok-write.ensures.writes plain refl in
     let below = c.in_ok-write_below.ensures head.plain refl in
     let end = c.write_str.ensures.writes below.plain ok in
     has_written_of_eq g.W.Write.write_str_gives _ _ _ _

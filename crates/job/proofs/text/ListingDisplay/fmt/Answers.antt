@@ -6,6 +6,6 @@ use Rattle.job.proofs.text.ListingDisplay.fmt.Goals as goal
 
 pub returns-clause-writes : goal.returns-clause-writes
 returns-clause-writes g c plain ok =
-    let head = c.in_ok-writeln.ensures.shows plain refl in
+    let head = c.in_ok-writeln.ensures.writes plain refl in
     let lines = c.write_parts.ensures head.plain ok in
     has_written_of_eq g.W.Write.write_str_gives _ _ _ _ (listing_is (outcome_of c.args.self.now) _ c.parts.ensures) (has_written_append g.W.Write.write_str_gives _ _ _ _ _ head lines)
