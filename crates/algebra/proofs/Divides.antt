@@ -3,7 +3,7 @@
 use Rattle.std.proofs.Common.{◌≡◌, [], ◌∷◌, sym, refl, ap, ◌∙◌, subst, ap₂}
 use mathlib.Core.Path.{◌≡⟨◌⟩◌, ◌∎}
 use Rattle.algebra.specs.Ring.{Ring}
-use Rattle.algebra.proofs.Laws.{mul_assoc, mul_comm, one-⊗, mul_one, zero-⊗, neg-⊗, ring·simp}
+use Rattle.algebra.proofs.Laws.{mul_assoc, mul_comm, one-⊗, mul_one, zero-⊗, neg-⊗, ring_simp}
 use Rattle.algebra.proofs.Solver.{◌:+◌, ◌:*◌, :neg, ring, A, B, C, D, E, F, G}
 
 module _ {K : Type 0} (R : Ring K) where
@@ -73,7 +73,7 @@ module _ {K : Type 0} (R : Ring K) where
   }
 
   pub coprime_one : (f : K) → Coprime R f 𝟙
-  coprime_one f = record { s = 𝟘; t = 𝟙; sum = simp ring·simp }
+  coprime_one f = record { s = 𝟘; t = 𝟙; sum = simp ring_simp }
 
   -- Euclid's lemma: one that divides a product and is coprime to a factor divides the other
   pub euclid_lemma : (f g h : K) → Coprime R f g → f ∣ g ⊗ h → f ∣ h

@@ -4,7 +4,7 @@ use Rattle.std.proofs.Common.{◌≡◌, ℕ, zero, suc, ◌+◌, ◌<◌, [], �
 use mathlib.Core.Path.{◌≡⟨◌⟩◌, ◌∎}
 use Rattle.algebra.specs.Ring.{Ring}
 use Rattle.algebra.proofs.Solver.{◌:+◌, ◌:-◌, ring, A, B, C}
-use Rattle.algebra.proofs.Laws.{⊗-zero, mul_assoc, add_zero, add_neg, mul_one, neg_zero, ac, ring·simp}
+use Rattle.algebra.proofs.Laws.{⊗-zero, mul_assoc, add_zero, add_neg, mul_one, neg_zero, ac, ring_simp}
 use Rattle.algebra.proofs.Seq.{Seqs, tail, zero_at, sum_at, neg_at}
 use Rattle.algebra.proofs.Bounds.{Below, cons, scale, below_nil, top_mul, cons_mul, cons_sum, cons_tail}
 
@@ -59,7 +59,7 @@ module _ {K : Type 0} (R : Ring K) where
 
     -- a sequence that is zero from n on can be divided by g
     pub divide : (n : ℕ) (f : ℕ → K) → Below R n f → Division n d f g
-    divide zero f p = record { quotient = 0ₚ; rest = f; adds_up = simp ring·simp; low = λ i h. p i zero-le; short = λ i h. zero_at R i }
+    divide zero f p = record { quotient = 0ₚ; rest = f; adds_up = simp ring_simp; low = λ i h. p i zero-le; short = λ i h. zero_at R i }
     divide (suc n) f p = step n f (divide n (tail f) (λ i h. p (suc i) (omega arith)))
 
     -- a bounded multiple of g that is below d is zero

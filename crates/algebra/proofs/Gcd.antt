@@ -4,7 +4,7 @@ use Rattle.std.proofs.Common.{◌≡◌, ℕ, zero, suc, ◌≤◌, ◌⊎◌, L
 use mathlib.Core.Path.{◌≡⟨◌⟩◌, ◌∎}
 use Rattle.algebra.specs.Ring.{Scalars, Field}
 use Rattle.algebra.specs.Lists.{In}
-use Rattle.algebra.proofs.Laws.{⊗-zero, ring·simp}
+use Rattle.algebra.proofs.Laws.{⊗-zero, ring_simp}
 use Rattle.algebra.proofs.Solver.{◌:+◌, ◌:*◌, ◌:-◌, ring, A, B, C, D, E}
 use Rattle.algebra.proofs.Poly.{Poly, Polys, size, size_zero}
 use Rattle.algebra.proofs.Divides.{Divides, Coprime, dvd_mul, dvd_sum, coprime_dvd}
@@ -50,16 +50,16 @@ module _ {K : Type 0} {S : Scalars K} where
           c.t ⊗ f ⊕ (c.s ⊕ neg (c.t ⊗ v.quotient)) ⊗ g ∎
 
       whole : v.quotient ⊗ g ⊕ v.rest ≡ (v.quotient ⊗ c.left.0 ⊕ c.right.0) ⊗ c.gcd
-      whole = rw (c.left.1, c.right.1) (simp ring·simp)
+      whole = rw (c.left.1, c.right.1) (simp ring_simp)
 
   from_zero : (f g : Poly S) → g ≡ 𝟘 → Gcd f g
   from_zero f g e = record {
     gcd = f;
     s = 𝟙;
     t = 𝟘;
-    bezout = simp ring·simp;
-    left = (𝟙, simp ring·simp);
-    right = (𝟘, rw e (simp ring·simp));
+    bezout = simp ring_simp;
+    left = (𝟙, simp ring_simp);
+    right = (𝟘, rw e (simp ring_simp));
   }
 
   -- a common divisor of positive degree
@@ -88,7 +88,7 @@ module _ {K : Type 0} {S : Scalars K} (F : Field S) where
   coprime_of f g c e = go (one_dvd F c.gcd e)
     where
       go : Divides (Polys S) c.gcd 𝟙 → Coprime (Polys S) f g
-      go d = record { s = d.0 ⊗ c.s; t = d.0 ⊗ c.t; sum = sym (d.1 ∙ rw c.bezout (simp ring·simp)) }
+      go d = record { s = d.0 ⊗ c.s; t = d.0 ⊗ c.t; sum = sym (d.1 ∙ rw c.bezout (simp ring_simp)) }
 
   -- a common divisor of a polynomial that is not zero is of positive degree, or both are coprime
   pub shares_or_coprime : (f g : Poly S) → 1 ≤ size f → (c : Gcd f g) → (2 ≤ size c.gcd) ⊎ Coprime (Polys S) f g

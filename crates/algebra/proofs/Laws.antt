@@ -1,5 +1,5 @@
 -- Laws that follow from those of a commutative ring, and the lists of them for simp.
--- Main statements: cancel, dist-⊗, zero-⊗, neg-⊗, neg_unique, eq_of_diff, ⊕_left_comm, ⊗_left_comm, ac, ring·simp.
+-- Main statements: cancel, dist-⊗, zero-⊗, neg-⊗, neg_unique, eq_of_diff, ⊕_left_comm, ⊗_left_comm, ac, ring_simp.
 use Rattle.std.proofs.Common.{◌≡◌, sym, ap, ◌∙◌}
 use Rattle.algebra.specs.Ring.{Ring}
 
@@ -93,4 +93,4 @@ module _ {K : Type 0} (R : Ring K) where
 pub ruleset ac = (add_assoc, add_comm, ⊕_left_comm, mul_assoc, mul_comm, ⊗_left_comm)
 
 -- for simp: multiplies out, and drops zeros, ones and opposites that cancel
-pub ruleset ring·simp = (mul_add, dist-⊗, neg_sum, neg-⊗, ⊗-neg, neg_neg, neg_zero, add_zero, zero-⊕, mul_one, one-⊗, ⊗-zero, zero-⊗, add_neg, neg-⊕, neg_cancel, cancel_neg, ac)
+pub ruleset ring_simp = (mul_add, dist-⊗, neg_sum, neg-⊗, ⊗-neg, neg_neg, neg_zero, add_zero, zero-⊕, mul_one, one-⊗, ⊗-zero, zero-⊗, add_neg, neg-⊕, neg_cancel, cancel_neg, ac)

@@ -1,8 +1,8 @@
 -- An extension is refused for its modulus exactly where that is a product of two polynomials of smaller positive degree, and one that is
 -- made has the field laws.
 -- Main statements: extensions_judged, extensions_are_fields, range_refused, range_judged, range_taken, made_laws, made_range.
-use Rattle.std.specs.Prelude.{◌≡◌, ℕ, ◌<◌, ◌≤◌, ◌↔◌, List, Some, None, Option, refl}
-use Rattle.std.proofs.Common.{sym, ap, ◌∙◌, subst, inl, inr, arith}
+use Rattle.std.specs.Prelude.{◌≡◌, ℕ, ◌≤◌, ◌↔◌, List, Some, None, Option, refl}
+use Rattle.std.proofs.Common.{sym, ap, subst, inl, inr, arith}
 use Rattle.field.specs.declared.fault.FieldFault.{FieldFault}
 use Rattle.field.specs.declared.fault.FieldFault.TheVariants.{ModulusSplits}
 use Rattle.field.specs.Field.{FieldMeaning, FieldLaws}

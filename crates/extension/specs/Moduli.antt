@@ -1,6 +1,6 @@
 -- The modulus of an extension as a row of codes, and what the answer of the splitting step tells of it.
 -- Main statements: digits_set, row_modulus; modulus_taken, modulus_room; told.
-use Rattle.std.specs.Prelude.{◌≡◌, ℕ, zero, suc, ◌+◌, ◌-◌, ◌*◌, ◌/◌, ◌%◌, ◌≤◌, Bool, true, false, not, List, [], ◌∷◌, ◌++◌, length, take, MatchBool, ◌==◌, ◌≢◌, slice_set, refl}
+use Rattle.std.specs.Prelude.{◌≡◌, ℕ, zero, suc, ◌+◌, ◌-◌, ◌*◌, ◌/◌, ◌%◌, ◌≤◌, not, List, [], ◌∷◌, ◌++◌, length, take, MatchBool, ◌==◌, ◌≢◌, slice_set, refl}
 use Rattle.std.proofs.Common.{sym, ap, ◌∙◌, subst, mul-le-mul, arith, length-take-le}
 use Rattle.field.specs.Ring.{RingMeaning, RingLaws}
 use Rattle.field.specs.Field.{FieldMeaning}

@@ -14,7 +14,7 @@ use Rattle.algebra.proofs.Terms.{const, const_mul, const_one}
 use Rattle.algebra.proofs.Remainder.{Leading, field_leading, leading_size, small_equal}
 use Rattle.field.specs.Ring.{RingMeaning, RingLaws, one}
 use Rattle.field.specs.Field.{FieldMeaning, FieldLaws, Inverses}
-use Rattle.field.specs.Polynomial.{coefficient, degree, leading, zero_polynomial, product, trimmed, or_zero, Canonical, Monic, Divides, IsDivision, IsCommonDivisor}
+use Rattle.field.specs.Polynomial.{coefficient, degree, leading, zero_polynomial, trimmed, or_zero, Canonical, Monic, Divides, IsDivision, IsCommonDivisor}
 use Rattle.field.specs.Rows.{IsRow}
 use Rattle.field.specs.Ranges.{some_none}
 use Rattle.field.specs.Scalars.{Code, CodeRing, CodeScalars, below_path, zero_code, unit_code as one_code, product_zero, sum_codes, product_codes, opposite_codes, zero_product, opposite_zero, scalar, scalar_one, scalar_product, code_field}

@@ -1,5 +1,5 @@
 -- The quotient of a field is a field just if its modulus does not split.
-use Rattle.std.proofs.Common.{◌≡◌, ℕ, zero, suc, ◌+◌, ◌-◌, ◌^◌, ◌≤◌, length, sym, ap, ◌∙◌, subst, ap₂, mul_comm as mul-comm-ℕ, mul-le-mul_left, arith}
+use Rattle.std.proofs.Common.{◌≡◌, ℕ, suc, ◌+◌, ◌^◌, ◌≤◌, length, sym, ap, ◌∙◌, subst, ap₂, mul_comm as mul-comm-ℕ, mul-le-mul_left, arith}
 use Rattle.algebra.specs.Ring.{Scalars}
 use Rattle.algebra.proofs.Poly.{Polys, size, zero_size}
 use Rattle.algebra.proofs.Size.{Factors, factors, no_zero_divisors}
@@ -10,7 +10,7 @@ use Rattle.algebra.proofs.Remainder.{Leading, rem_zero}
 use Rattle.algebra.proofs.Quotient.{Quotient, Residue, quotient_field, quotient_characteristic, quotient_mul, quotient_zero, power_of_power}
 use Rattle.field.specs.Ring.{RingMeaning, RingLaws, greatest_order}
 use Rattle.field.specs.Field.{FieldMeaning, FieldLaws}
-use Rattle.field.specs.Polynomial.{degree, product, Splits}
+use Rattle.field.specs.Polynomial.{degree, Splits}
 use Rattle.field.specs.Quotient.{modulus, quotient_ring, extension_field}
 use Rattle.field.specs.Inverting.{inverses_found}
 use Rattle.field.specs.Scalars.{Code, CodeRing, CodeScalars, code_path, zero_code, product_codes, code_field, code_characteristic}

@@ -1,5 +1,4 @@
--- Tests and searches; coefficients and canonical form of a polynomial that is given by its coefficients
--- Codes are scalars, lists of codes are polynomials over them
+-- Powers, factors and common divisors of polynomials over codes
 pub mod Squaring
 pub mod Factors
 pub mod CommonDivisors
@@ -9,7 +8,7 @@ pub mod Rows
 pub mod Writing
 pub mod RowPolynomials
 pub mod Divisions
--- The laws of residues and prime fields
+-- Inverses by powers, and the list of primes
 pub mod PowerInverses
 pub mod PrimeList
 -- Quotients by a polynomial, extensions, the symbol field

@@ -1,6 +1,6 @@
 -- In a field of q elements the inverse of a code but 0 is its power q - 2, and the exponent is small.
 -- Main statements: inverse_is_power, exponent_small.
-use Rattle.std.proofs.Common.{◌≡◌, ℕ, zero, suc, ◌-◌, ◌^◌, ◌<◌, ◌≤◌, Some, Option, sym, refl, ap, ◌∙◌, subst, pow-suc as power_suc, mul-one as times_one, arith}
+use Rattle.std.proofs.Common.{◌≡◌, ℕ, zero, suc, ◌-◌, ◌^◌, ◌<◌, ◌≤◌, Some, Option, sym, refl, ap, ◌∙◌, pow-suc as power_suc, mul-one as times_one, arith}
 use native.Mathlib.Decide.{dec_lt}
 use native.Mathlib.Nat.{pow-le-pow_left, pow-le-pow_right}
 use Rattle.algebra.specs.Powers.{pow}

@@ -1,6 +1,6 @@
 -- Sums and opposites in the symbol field: bits add up without carry, and each code is its own opposite.
 -- Main statements: symbol_sum, symbol_opposite.
-use Rattle.std.proofs.Common.{◌≡◌, ℕ, zero, suc, ◌/◌, ◌%◌, ◌<◌, true, eqb, map, length, get_or, sym, refl, ap, ◌∙◌, ap₂, le_of_suc-le-suc, not-suc-le-zero, mod-lt, arith, ext_get_or, eqb-true}
+use Rattle.std.proofs.Common.{◌≡◌, ℕ, zero, suc, ◌/◌, ◌%◌, ◌<◌, true, eqb, map, get_or, sym, refl, ap, ◌∙◌, le_of_suc-le-suc, not-suc-le-zero, mod-lt, arith, ext_get_or, eqb-true}
 use lib.Bits.{bit_xor, xor_lt, xor_mod, xor_shr}
 use Rattle.field.specs.Checks.{below}
 use Rattle.field.specs.Residues.{residues}

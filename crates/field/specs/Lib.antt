@@ -8,6 +8,7 @@ pub mod Quotient
 pub mod Symbol
 pub mod Tables
 pub mod Faults
+-- Lemmas, from which the implementations prove the laws of their traits: such lemmas have to stand here, and no clause cites them
 pub mod Ranges
 pub mod Tests
 pub mod ResidueRings

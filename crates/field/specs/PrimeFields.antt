@@ -7,7 +7,7 @@ use Rattle.std.proofs.Math.Decide.{dec_le, ℕ_discrete}
 use borrow.Author.Tests.{leb-true, eqb-false, clash}
 use Rattle.algebra.proofs.Laws.{mul_assoc, mul_one as ring_mul_one, neg_unique, neg-⊗, ⊗-neg}
 use Rattle.field.specs.Checks.{seek}
-use Rattle.field.specs.Ring.{RingMeaning, RingLaws, one, total, multiple}
+use Rattle.field.specs.Ring.{RingMeaning, RingLaws, total, multiple}
 use Rattle.field.specs.Field.{FieldLaws, Characteristic}
 use Rattle.field.specs.Residues.{residues, is_prime, prime_field}
 use Rattle.field.specs.Tests.{both_left, both_right}

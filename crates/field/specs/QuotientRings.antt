@@ -1,5 +1,5 @@
 -- Codes of a quotient ring are remainders, one to one; so a quotient has the ring laws, and its product is the remainder of the product.
-use Rattle.std.specs.Prelude.{◌≡◌, ℕ, zero, suc, ◌-◌, ◌^◌, ◌<◌, ◌≤◌, List, map, length, slice_index_or}
+use Rattle.std.specs.Prelude.{◌≡◌, ℕ, zero, suc, ◌^◌, ◌<◌, ◌≤◌, List, map, length, slice_index_or}
 use Rattle.std.proofs.Math.Path.{sym, ap}
 use Rattle.std.proofs.Common.{ap₂, ◌∙◌, subst, mul-le-mul_left, arith, ext_get_or}
 use Rattle.std.proofs.Math.Nat.{pow-succ'}
@@ -14,8 +14,8 @@ use Rattle.algebra.proofs.Low.{low_path}
 use Rattle.algebra.proofs.Remainder.{Leading, rem, quo, rem_adds, rem_small}
 use Rattle.algebra.proofs.Quotient.{Quotient, quotient_zero, quotient_one, quotient_sum, quotient_neg, quotient_mul}
 use Rattle.field.specs.Checks.{below}
-use Rattle.field.specs.Ring.{RingMeaning, RingLaws, one, greatest_order}
-use Rattle.field.specs.Polynomial.{coefficient, Canonical, sum, product, trimmed}
+use Rattle.field.specs.Ring.{RingMeaning, RingLaws, greatest_order}
+use Rattle.field.specs.Polynomial.{coefficient, Canonical, product, trimmed}
 use Rattle.field.specs.Quotient.{digits, from_digits, modulus, reduced, polynomial_of, quotient_ring, Reduces}
 use Rattle.field.specs.Coefficients.{trimmed_at, or_zero_at, map_below_at}
 use Rattle.field.specs.Forms.{list_canonical}

@@ -1,5 +1,5 @@
 -- The quotient of a ring by t^k plus a polynomial, in codes, is the ring of remainders modulo that polynomial.
-use Rattle.std.specs.Prelude.{◌≡◌, ℕ, zero, suc, ◌+◌, ◌-◌, ◌*◌, ◌^◌, ◌<◌, ◌≤◌, List, [], ◌∷◌, ◌++◌, map, length, replicate, slice_index}
+use Rattle.std.specs.Prelude.{◌≡◌, ℕ, zero, suc, ◌-◌, ◌^◌, ◌<◌, ◌≤◌, List, [], ◌∷◌, ◌++◌, map, length, replicate, slice_index}
 use Rattle.std.proofs.Math.Path.{refl, sym, ap, subst}
 use Rattle.std.proofs.Common.{ap₂, ◌∙◌, arith, length-append}
 use Rattle.std.proofs.Math.Decide.{dec_lt, ℕ_discrete}
@@ -15,7 +15,7 @@ use Rattle.algebra.proofs.Low.{onto_coef_zero, onto_coef_suc}
 use Rattle.algebra.proofs.Remainder.{Leading, rem, rem_unique}
 use Rattle.field.specs.Checks.{below}
 use Rattle.field.specs.Ring.{RingMeaning, RingLaws, one}
-use Rattle.field.specs.Polynomial.{coefficient, Canonical, sum, product}
+use Rattle.field.specs.Polynomial.{coefficient, Canonical}
 use Rattle.field.specs.Quotient.{digits, from_digits, modulus, lowered, reduced}
 use Rattle.field.specs.Coefficients.{below_length, map_below_at}
 use Rattle.field.specs.Digits.{digits_length, digits_below, number_below, digits_number}

@@ -1,6 +1,6 @@
 -- The loop of steps: the weight of the worksheet bounds it, and where it stops no part is open.
 -- Main statements: weight_small, none_open, before_more, settled_here.
-use Rattle.std.proofs.Common.{◌≡◌, ℕ, suc, ◌+◌, ◌-◌, ◌*◌, ◌<◌, ◌≤◌, true, false, leb, List, [], ◌∷◌, length, is_ok as isOk, Some, None, Ok, Err, Option, Result, refl, ap, subst, mul-le-mul, mul-le-mul_left, arith, le-leb}
+use Rattle.std.proofs.Common.{◌≡◌, ℕ, suc, ◌+◌, ◌-◌, ◌*◌, ◌≤◌, true, false, leb, List, [], ◌∷◌, length, is_ok as isOk, Some, None, Ok, Err, Option, Result, refl, ap, subst, mul-le-mul_left, arith, le-leb}
 use Rattle.std.proofs.lemmas.Bool.{cond_both}
 use Rattle.field.specs.Checks.{unless}
 use Rattle.field.specs.Ring.{RingMeaning}
@@ -9,7 +9,7 @@ use Rattle.field.specs.Polynomial.{degree}
 use Rattle.split.specs.Splitting.{scratch_size}
 use Rattle.worksheet.specs.declared.fault.SheetFault.{SheetFault}
 use Rattle.worksheet.specs.declared.fault.SheetFault.TheVariants.{NoOpenPart, ShortScratch}
-use Rattle.worksheet.specs.Sheet.{PartMeaning, SheetMeaning, most_degree, total_degree, next_open, is_open, Each, GoodPart, GoodSheet}
+use Rattle.worksheet.specs.Sheet.{PartMeaning, SheetMeaning, total_degree, next_open, is_open, Each, GoodPart, GoodSheet}
 use Rattle.worksheet.specs.Faults.{scratch_refusal, step_refusal}
 use Rattle.worksheet.specs.Calls.{Stepped}
 use Rattle.worksheet.proofs.Measures.{asks, weight, weight_cons, weight_nil, degree_cons}

@@ -1,5 +1,5 @@
 -- The bytes of a job: a count of 1 to 3 field levels and the levels, then a count of 0 to 127 polynomials and these.
-use Rattle.std.specs.Prelude.{ℕ, zero, suc, ◌+◌, ◌-◌, ◌*◌, Bool, true, false, List, [], ◌∷◌, length, ◌==◌, nat_le, slice_index}
+use Rattle.std.specs.Prelude.{ℕ, zero, suc, ◌+◌, ◌-◌, ◌*◌, true, false, List, [], ◌∷◌, length, ◌==◌, nat_le, slice_index}
 use Rattle.field.specs.Checks.{between}
 use Rattle.job.specs.declared.fault.JobFault.{JobFault}
 use Rattle.job.specs.declared.fault.JobFault.TheVariants.{EndsEarly, NotAllowed, LeftOver}

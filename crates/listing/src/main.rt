@@ -13,10 +13,10 @@ const KEPT_BYTES: u64 = MOST_JOB_BYTES as u64 + 1;
 const CHUNK: usize = 4096;
 
 const HELP: &str = "\
-hishdugur: splits polynomials over a finite field; each listed factor is proved not to split again
+listing: splits polynomials over a finite field; each listed factor is proved not to split again
 
 Reads a job from standard input and prints its listing:
-  hishdugur < examples/frame-check.job
+  listing < examples/frame-check.job
 
 A job is bytes: a count of 1 to 3 field levels and the levels, a count of 0 to 127 polynomials and these.
   level       01 p: prime field of order p    02: CCSDS symbol field of order 256

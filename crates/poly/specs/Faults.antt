@@ -1,5 +1,5 @@
 -- Why a polynomial is not taken or a result not given, in the order of checking.
-use Rattle.std.specs.Prelude.{◌≡◌, ℕ, ◌+◌, Bool, not, ◌&&◌, ◌||◌, leb, List, length, Some, None, Option, ◌==◌, nat_le, nat_lt}
+use Rattle.std.specs.Prelude.{ℕ, ◌+◌, Bool, not, ◌&&◌, ◌||◌, leb, List, length, Some, None, Option, ◌==◌, nat_le, nat_lt}
 use Rattle.field.specs.Checks.{unless, between, ◌or_else◌, first_below}
 use Rattle.field.specs.Ring.{RingMeaning}
 use Rattle.field.specs.Polynomial.{coefficient, leading, degree}

@@ -1,4 +1,4 @@
-use Rattle.std.proofs.Common.{◌≡◌, ℕ, suc, ◌-◌, List, length, set, sym, ap, ◌∙◌, ap₂, arith}
+use Rattle.std.proofs.Common.{◌≡◌, ℕ, suc, ◌-◌, List, length, set, ap, ◌∙◌, ap₂, arith}
 use Rattle.field.specs.Quotient.{digits}
 use Rattle.extension.specs.Moduli.{digits_set}
 use Rattle.extension.proofs.making.write_modulus.Goals as goal

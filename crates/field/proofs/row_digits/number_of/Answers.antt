@@ -1,4 +1,4 @@
-use Rattle.std.proofs.Common.{ℕ, ◌+◌, ◌-◌, ◌*◌, ap, ◌∙◌, arith}
+use Rattle.std.proofs.Common.{ℕ, ◌+◌, ◌*◌, ap, ◌∙◌, arith}
 use Rattle.field.proofs.RowDigits.{number_none, number_more, number_fits, number_all}
 use Rattle.field.proofs.row_digits.number_of.Goals as goal
 

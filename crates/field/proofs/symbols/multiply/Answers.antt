@@ -1,4 +1,4 @@
-use Rattle.std.proofs.Common.{◌≡◌, ℕ, ◌<◌, sym, ap, ◌∙◌, inl, inr, arith}
+use Rattle.std.proofs.Common.{ℕ, ◌<◌, sym, ap, ◌∙◌, inl, inr, arith}
 use Rattle.field.specs.Symbol.{symbol_ring}
 use Rattle.field.proofs.AlphaPowers.{product_left, product_right}
 use Rattle.field.proofs.TableEntries.{product_read}

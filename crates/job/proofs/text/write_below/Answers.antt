@@ -1,5 +1,5 @@
 use Rattle.std.proofs.Output.{has_written_of_eq}
-use Rattle.job.proofs.Texts.{put_none, below_is}
+use Rattle.job.proofs.Texts.{below_is}
 use Rattle.job.proofs.text.write_below.Goals as goal
 
 pub returns : goal.returns

@@ -8,7 +8,6 @@ use Rattle.job.specs.Reader.{bytes_of}
 use Rattle.job.specs.Outcome.{Outcome, outcome}
 use Rattle.job.specs.Job.{most_scratch, Settles, Works, Climbs}
 use Rattle.job.proofs.Working.{answer_break, count_stopped, count_read, works_moved}
-use Rattle.job.proofs.work.work.Given as given
 use Rattle.job.proofs.work.work.Goals as goal
 
 pub returns-in_err-count : goal.returns-in_err-count

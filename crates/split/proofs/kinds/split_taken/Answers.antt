@@ -8,7 +8,6 @@ use Rattle.split.specs.Calls.{Paired}
 use Rattle.split.proofs.Buffers.{holds_part}
 use Rattle.split.proofs.Unrefused.{derivative_short}
 use Rattle.split.proofs.SimpleKinds.{long_nonzero, code_nonzero, divisor_one}
-use Rattle.split.proofs.kinds.split_taken.Given as given
 use Rattle.split.proofs.kinds.split_taken.Goals as goal
 use Rattle.split.proofs.kinds.split_taken.Goals.{else-n-eq1-via-then-n-eq1+else-derived-eq0, else-n-eq1-via-else-n-eq1}
 

@@ -1,8 +1,8 @@
 use Rattle.std.proofs.Common.{◌≡◌, true, false, get_or, sym, ap, ◌∙◌, arith}
 use Rattle.std.proofs.lemmas.List.{get_or_default}
 use Rattle.worksheet.specs.Sheet.{before}
-use Rattle.worksheet.specs.Meaning.{part_of, Sized}
-use Rattle.worksheet.proofs.PartsHeld.{blank, each_at}
+use Rattle.worksheet.specs.Meaning.{part_of}
+use Rattle.worksheet.proofs.PartsHeld.{blank}
 use Rattle.worksheet.proofs.PlaceOf.{place_more, place_stop, place_all}
 use Rattle.worksheet.proofs.placing.position.Goals as goal
 

@@ -7,8 +7,8 @@ use Rattle.worksheet.specs.declared.parts.Part.{Part}
 use Rattle.worksheet.specs.Sheet.{PartMeaning, part_at, next_open, GoodSheet}
 use Rattle.worksheet.specs.Calls.{scratch_of, Stepped}
 use Rattle.worksheet.specs.Law.{step}
-use Rattle.worksheet.specs.Meaning.{part_of, sheet_of, Sized}
-use Rattle.worksheet.proofs.PartsHeld.{at_part, each_at}
+use Rattle.worksheet.specs.Meaning.{part_of, sheet_of}
+use Rattle.worksheet.proofs.PartsHeld.{at_part}
 use Rattle.worksheet.proofs.Refusals.{step_fits, step_short}
 use Rattle.worksheet.proofs.Pieces.{part_taken}
 use Rattle.worksheet.proofs.Runs.{call_good}
