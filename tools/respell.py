@@ -45,7 +45,7 @@ def files(crate):
 
 
 def dashed(name):
-    return re.search(r"\w-\w", name) is not None
+    return re.search(r"[\w⊕⊗]-[\w⊕⊗]", name) is not None
 
 
 def own(path, crates):
@@ -69,9 +69,9 @@ def main():
                 declared.add(m.group(1))
     turned = {n: n.replace("-", "_") for n in declared if dashed(n) and n not in goals}
     turned.update(OTHERS)
-    taken = set(turned.values()) & declared
+    taken = sorted(new for old, new in turned.items() if old in declared and new in declared)
     if taken:
-        sys.exit(f"respell: these names would fall together with names that stand: {sorted(taken)}")
+        sys.exit(f"respell: these names would fall together with names that stand: {taken}")
 
     changed = 0
     for p, text in texts.items():
@@ -88,7 +88,7 @@ def main():
             m = IMPORT.match(line)
             comment = line.lstrip().startswith("--" if p.endswith(".antt") else "//")
             if comment:
-                heads = "Main statements" in line or (heads and line.startswith("--"))
+                heads = "Main statement" in line or (heads and line.startswith("--"))
                 if not heads:
                     out.append(line)
                     continue

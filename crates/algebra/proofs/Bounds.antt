@@ -3,7 +3,7 @@
 use Rattle.std.proofs.Common.{◌≡◌, ℕ, zero, suc, ◌+◌, ◌≤◌, sym, refl, ap, ◌∙◌, zero-le, suc-add, zero-add, arith}
 use mathlib.Core.Path.{fun_ext}
 use Rattle.algebra.specs.Ring.{Ring}
-use Rattle.algebra.proofs.Laws.{zero-⊕, zero-⊗, ⊗-zero, add_zero, neg_zero}
+use Rattle.algebra.proofs.Laws.{zero_⊕, zero_⊗, ⊗_zero, add_zero, neg_zero}
 use Rattle.algebra.proofs.Seq.{Seqs, tail, zero_at, sum_at, neg_at, prod_at_zero, prod_at_suc}
 
 module _ {K : Type 0} (R : Ring K) where
@@ -41,14 +41,14 @@ module _ {K : Type 0} (R : Ring K) where
   below_nil f p = fun_ext (λ i. p i zero-le ∙ sym (zero_at R i))
 
   nil_mul_at : (g : ℕ → K) (i : ℕ) → (0ₚ *ₚ g) i ≡ 𝟘
-  nil_mul_at g i = ap (λ (x : ℕ → K). x i) (zero-⊗ (Seqs R) g) ∙ zero_at R i
+  nil_mul_at g i = ap (λ (x : ℕ → K). x i) (zero_⊗ (Seqs R) g) ∙ zero_at R i
 
   -- a product is zero from the sum of the bounds less one on
   pub below_mul : (i : ℕ) (f g : ℕ → K) (m n : ℕ) → Below R m f → Below R n g → m + n ≤ suc i → (f *ₚ g) i ≡ 𝟘
   below_mul i f g zero n p q h = rw (below_nil f p) (nil_mul_at g i)
-  below_mul zero f g (suc m) n p q h = simp (prod_at_zero, q 0 (omega arith), ⊗-zero)
+  below_mul zero f g (suc m) n p q h = simp (prod_at_zero, q 0 (omega arith), ⊗_zero)
   below_mul (suc i) f g (suc m) n p q h =
-      simp (prod_at_suc, q (suc i) (omega arith), below_mul i (tail f) g m n (λ j k. p (suc j) (omega arith)) q (omega arith), ⊗-zero, add_zero)
+      simp (prod_at_suc, q (suc i) (omega arith), below_mul i (tail f) g m n (λ j k. p (suc j) (omega arith)) q (omega arith), ⊗_zero, add_zero)
 
   -- highest coefficients multiply
   pub top_mul : (m n : ℕ) (f g : ℕ → K) → Below R (suc m) f → Below R (suc n) g → (f *ₚ g) (m + n) ≡ f m ⊗ g n
@@ -61,7 +61,7 @@ module _ {K : Type 0} (R : Ring K) where
       go zero = prod_at_zero R f g
       go (suc k) = simp (prod_at_suc, tl, nil_mul_at, add_zero)
   top_mul (suc m) n f g p q =
-      rw (suc-add m n, prod_at_suc R f g (m + n), q (suc (m + n)) (omega arith), top_mul m n (tail f) g (λ i h. p (suc i) (omega arith)) q) (simp (⊗-zero, zero-⊕))
+      rw (suc-add m n, prod_at_suc R f g (m + n), q (suc (m + n)) (omega arith), top_mul m n (tail f) g (λ i h. p (suc i) (omega arith)) q) (simp (⊗_zero, zero_⊕))
 
   -- a product by the first element and the others
   pub cons_mul : (c : K) (f g : ℕ → K) → cons R c f *ₚ g ≡ scale R c g +ₚ cons R 𝟘 (f *ₚ g)
@@ -75,7 +75,7 @@ module _ {K : Type 0} (R : Ring K) where
   cons_sum c f g = fun_ext go
     where
       go : (i : ℕ) → (cons R 𝟘 f +ₚ cons R c g) i ≡ cons R c (f +ₚ g) i
-      go zero = simp (sum_at, zero-⊕)
+      go zero = simp (sum_at, zero_⊕)
       go (suc i) = simp sum_at
 
   pub cons_tail : (f : ℕ → K) → cons R (f 0) (tail f) ≡ f

@@ -4,7 +4,7 @@ use Rattle.std.proofs.Common.{◌≡◌, ℕ, zero, suc, ◌+◌, ◌*◌, ◌/�
 use mathlib.Core.Path.{◌≡⟨◌⟩◌, ◌∎}
 use Rattle.algebra.specs.Ring.{Ring, Scalars, Field}
 use Rattle.algebra.specs.Powers.{Characteristic, Divisor, Prime}
-use Rattle.algebra.proofs.Laws.{add_zero, zero-⊕}
+use Rattle.algebra.proofs.Laws.{add_zero, zero_⊕}
 use Rattle.algebra.proofs.Powers.{times, times_zero, times_suc, times_of_zero, times_add, times_mul, times_mul_one}
 use Rattle.algebra.proofs.Size.{zero_factor}
 use Rattle.algebra.proofs.Poly.{Poly, Polys}
@@ -27,7 +27,7 @@ module _ {K : Type 0} (R : Ring K) where
 
       rest : times R (n % p) R.𝟙 ≡ R.𝟘
       rest =
-          times R (n % p) R.𝟙 ≡⟨ sym (zero-⊕ R _) ∙ ap (λ (x : K). R.◌⊕◌ x (times R (n % p) R.𝟙)) (sym (multiples_vanish p (n / p * p) c.vanishes (n / p, refl))) ⟩
+          times R (n % p) R.𝟙 ≡⟨ sym (zero_⊕ R _) ∙ ap (λ (x : K). R.◌⊕◌ x (times R (n % p) R.𝟙)) (sym (multiples_vanish p (n / p * p) c.vanishes (n / p, refl))) ⟩
           R.◌⊕◌ (times R (n / p * p) R.𝟙) (times R (n % p) R.𝟙) ≡⟨ sym (times_add R (n / p * p) (n % p) R.𝟙) ∙ ap (λ (k : ℕ). times R k R.𝟙) (sym whole) ∙ z ⟩
           R.𝟘 ∎
 

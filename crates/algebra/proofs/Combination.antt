@@ -3,7 +3,7 @@
 use Rattle.std.proofs.Common.{◌≡◌, ℕ, zero, suc, ◌≤◌, sym, refl, ap, ◌∙◌, ap₂, arith}
 use mathlib.Core.Path.{fun_ext}
 use Rattle.algebra.specs.Ring.{Ring, Scalars}
-use Rattle.algebra.proofs.Laws.{add_comm, add_assoc, mul_one, zero-⊗, ⊗_left_comm, mul_add}
+use Rattle.algebra.proofs.Laws.{add_comm, add_assoc, mul_one, zero_⊗, ⊗_left_comm, mul_add}
 use Rattle.algebra.proofs.Seq.{tail}
 use Rattle.algebra.proofs.Poly.{Poly, Polys, size, size_zero, zero_coef, sum_coef}
 use Rattle.algebra.proofs.Powers.{pow, pow_zero, pow_suc}
@@ -50,8 +50,8 @@ module _ {K : Type 0} {S : Scalars K} where
 
   pub linear_zero : (φ : Poly S → Poly S) → LinearMap φ → φ 𝟘 ≡ 𝟘
   linear_zero φ l =
-      ap φ (sym (zero-⊗ (Polys S) 𝟘) ∙ ap (λ (x : Poly S). x ⊗ 𝟘) (sym (const_zero S))) ∙ l.scale S.ring.𝟘 𝟘
-      ∙ ap (λ (x : Poly S). x ⊗ φ 𝟘) (const_zero S) ∙ zero-⊗ (Polys S) (φ 𝟘)
+      ap φ (sym (zero_⊗ (Polys S) 𝟘) ∙ ap (λ (x : Poly S). x ⊗ 𝟘) (sym (const_zero S))) ∙ l.scale S.ring.𝟘 𝟘
+      ∙ ap (λ (x : Poly S). x ⊗ φ 𝟘) (const_zero S) ∙ zero_⊗ (Polys S) (φ 𝟘)
 
   -- a linear map of a combination is the combination of the images
   pub linear_combine : (φ : Poly S → Poly S) → LinearMap φ → (n : ℕ) (c : ℕ → K) (u : ℕ → Poly S) → φ (combine n c u) ≡ combine n c (λ i. φ (u i))

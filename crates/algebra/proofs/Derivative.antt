@@ -3,11 +3,11 @@
 use Rattle.std.proofs.Common.{◌≡◌, ℕ, zero, suc, ◌<◌, ◌≤◌, [], ◌∷◌, sym, refl, ap, ◌∙◌, subst, ap₂, arith}
 use mathlib.Core.Path.{fun_ext, ◌≡⟨◌⟩◌, ◌∎}
 use Rattle.algebra.specs.Ring.{Ring, Scalars, Field}
-use Rattle.algebra.proofs.Laws.{add_zero, zero-⊕, mul_comm, zero-⊗, ⊗-zero, dist-⊗}
+use Rattle.algebra.proofs.Laws.{add_zero, zero_⊕, mul_comm, zero_⊗, ⊗_zero, dist_⊗}
 use Rattle.algebra.proofs.Solver.{:0, ◌:+◌, ◌:*◌, ring, A, B, C, D, E, F}
 use Rattle.algebra.proofs.Seq.{Seqs, tail, sum_at, prod_at_zero, prod_at_suc}
 use Rattle.algebra.proofs.Poly.{Poly, Polys, poly, poly_path, poly_coef, poly_seq, size, low, size_le, sum_coef, prod_coef}
-use Rattle.algebra.proofs.Powers.{times, times_zero, times_suc, times_of_zero, times_sum, ⊗-times}
+use Rattle.algebra.proofs.Powers.{times, times_zero, times_suc, times_of_zero, times_sum, ⊗_times}
 use Rattle.algebra.proofs.Divides.{Divides, Coprime, dvd_mul, dvd_mul_right, dvd_sum}
 use Rattle.algebra.proofs.Size.{factors, dvd_size, nonzero_size}
 use Rattle.algebra.proofs.Gcd.{Gcd, greatest}
@@ -27,10 +27,10 @@ module _ {K : Type 0} (R : Ring K) where
   tail_euler f = fun_ext (λ i. times_suc R i (f (suc i)) ∙ sym (sum_at R (tail f) (euler (tail f)) i))
 
   euler_mul : (f g : ℕ → K) (n : ℕ) → times R n ((f *ₚ g) n) ≡ (euler f *ₚ g) n ⊕ (f *ₚ euler g) n
-  euler_mul f g zero = simp (times_zero, prod_at_zero, zero-⊗, ⊗-zero, add_zero)
+  euler_mul f g zero = simp (times_zero, prod_at_zero, zero_⊗, ⊗_zero, add_zero)
   euler_mul f g (suc n) =
       times R (suc n) ((f *ₚ g) (suc n)) ≡⟨ ap (times R (suc n)) (prod_at_suc R f g n) ∙ times_sum R (suc n) _ _ ⟩
-      times R (suc n) (f 0 ⊗ g (suc n)) ⊕ times R (suc n) ((tail f *ₚ g) n) ≡⟨ ap₂ ◌⊕◌ (sym (⊗-times R (suc n) (f 0) (g (suc n)))) (times_suc R n _ ∙ ap (λ (x : K). (tail f *ₚ g) n ⊕ x) (euler_mul (tail f) g n)) ⟩
+      times R (suc n) (f 0 ⊗ g (suc n)) ⊕ times R (suc n) ((tail f *ₚ g) n) ≡⟨ ap₂ ◌⊕◌ (sym (⊗_times R (suc n) (f 0) (g (suc n)))) (times_suc R n _ ∙ ap (λ (x : K). (tail f *ₚ g) n ⊕ x) (euler_mul (tail f) g n)) ⟩
       f 0 ⊗ times R (suc n) (g (suc n)) ⊕ ((tail f *ₚ g) n ⊕ ((euler (tail f) *ₚ g) n ⊕ (tail f *ₚ euler g) n)) ≡⟨
       ring R (f 0 ∷ times R (suc n) (g (suc n)) ∷ (tail f *ₚ g) n ∷ (euler (tail f) *ₚ g) n ∷ (tail f *ₚ euler g) n ∷ g (suc n) ∷ [])
       (A :* B :+ (C :+ (D :+ E))) ((:0 :* F :+ (C :+ D)) :+ (A :* B :+ E)) refl ⟩
@@ -39,11 +39,11 @@ module _ {K : Type 0} (R : Ring K) where
     where
       left : 𝟘 ⊗ g (suc n) ⊕ ((tail f *ₚ g) n ⊕ (euler (tail f) *ₚ g) n) ≡ (euler f *ₚ g) (suc n)
       left = sym (prod_at_suc R (euler f) g n ∙ ap₂ ◌⊕◌ (ap (λ (x : K). x ⊗ g (suc n)) (times_zero R (f 0)))
-          (ap (λ (x : ℕ → K). (x *ₚ g) n) (tail_euler f) ∙ ap (λ (x : ℕ → K). x n) (dist-⊗ (Seqs R) (tail f) (euler (tail f)) g) ∙ sum_at R _ _ n))
+          (ap (λ (x : ℕ → K). (x *ₚ g) n) (tail_euler f) ∙ ap (λ (x : ℕ → K). x n) (dist_⊗ (Seqs R) (tail f) (euler (tail f)) g) ∙ sum_at R _ _ n))
 
   -- the product rule, at the sequences
   tail_mul : (f g : ℕ → K) (n : ℕ) → f 0 ≡ 𝟘 → (f *ₚ g) (suc n) ≡ (tail f *ₚ g) n
-  tail_mul f g n e = prod_at_suc R f g n ∙ ap (λ (x : K). x ⊗ g (suc n) ⊕ (tail f *ₚ g) n) e ∙ ap (λ (x : K). x ⊕ (tail f *ₚ g) n) (zero-⊗ R (g (suc n))) ∙ zero-⊕ R _
+  tail_mul f g n e = prod_at_suc R f g n ∙ ap (λ (x : K). x ⊗ g (suc n) ⊕ (tail f *ₚ g) n) e ∙ ap (λ (x : K). x ⊕ (tail f *ₚ g) n) (zero_⊗ R (g (suc n))) ∙ zero_⊕ R _
 
   rule : (f g : ℕ → K) (n : ℕ) → times R (suc n) ((f *ₚ g) (suc n)) ≡ (tail (euler f) *ₚ g) n ⊕ (f *ₚ tail (euler g)) n
   rule f g n =

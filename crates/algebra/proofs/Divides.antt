@@ -3,7 +3,7 @@
 use Rattle.std.proofs.Common.{◌≡◌, [], ◌∷◌, sym, refl, ap, ◌∙◌, subst, ap₂}
 use mathlib.Core.Path.{◌≡⟨◌⟩◌, ◌∎}
 use Rattle.algebra.specs.Ring.{Ring}
-use Rattle.algebra.proofs.Laws.{mul_assoc, mul_comm, one-⊗, mul_one, zero-⊗, neg-⊗, ring_simp}
+use Rattle.algebra.proofs.Laws.{mul_assoc, mul_comm, one_⊗, mul_one, zero_⊗, neg_⊗, ring_simp}
 use Rattle.algebra.proofs.Solver.{◌:+◌, ◌:*◌, :neg, ring, A, B, C, D, E, F, G}
 
 module _ {K : Type 0} (R : Ring K) where
@@ -27,10 +27,10 @@ module _ {K : Type 0} (R : Ring K) where
   ◌∣◌ = Divides R
 
   pub dvd_refl : (a : K) → a ∣ a
-  dvd_refl a = (𝟙, sym (one-⊗ R a))
+  dvd_refl a = (𝟙, sym (one_⊗ R a))
 
   pub dvd_zero : (a : K) → a ∣ 𝟘
-  dvd_zero a = (𝟘, sym (zero-⊗ R a))
+  dvd_zero a = (𝟘, sym (zero_⊗ R a))
 
   pub dvd_trans : (a b c : K) → a ∣ b → b ∣ c → a ∣ c
   dvd_trans a b c p q = (q.0 ⊗ p.0, q.1 ∙ ap (λ (x : K). q.0 ⊗ x) p.1 ∙ sym (mul_assoc R q.0 p.0 a))
@@ -52,7 +52,7 @@ module _ {K : Type 0} (R : Ring K) where
   dvd_sum a b c p q = (p.0 ⊕ q.0, ap₂ ◌⊕◌ p.1 q.1 ∙ ring R (_ ∷ _ ∷ _ ∷ []) (A :* B :+ C :* B) ((A :+ C) :* B) refl)
 
   pub dvd_neg : (a b : K) → a ∣ b → a ∣ neg b
-  dvd_neg a b p = (neg p.0, ap neg p.1 ∙ sym (neg-⊗ R p.0 a))
+  dvd_neg a b p = (neg p.0, ap neg p.1 ∙ sym (neg_⊗ R p.0 a))
 
   -- of three that sum up, one that divides two divides the third
   pub dvd_rest : (a b c : K) → a ∣ b ⊕ c → a ∣ b → a ∣ c
@@ -79,7 +79,7 @@ module _ {K : Type 0} (R : Ring K) where
   pub euclid_lemma : (f g h : K) → Coprime R f g → f ∣ g ⊗ h → f ∣ h
   euclid_lemma f g h p d = (
     p.s ⊗ h ⊕ p.t ⊗ d.0,
-    h ≡⟨ sym (one-⊗ R h) ∙ ap (λ (x : K). x ⊗ h) (sym p.sum) ⟩
+    h ≡⟨ sym (one_⊗ R h) ∙ ap (λ (x : K). x ⊗ h) (sym p.sum) ⟩
         (p.s ⊗ f ⊕ p.t ⊗ g) ⊗ h ≡⟨ ring R (_ ∷ _ ∷ _ ∷ _ ∷ _ ∷ []) ((A :* B :+ C :* D) :* E) (A :* E :* B :+ C :* (D :* E)) refl ⟩
         p.s ⊗ h ⊗ f ⊕ p.t ⊗ (g ⊗ h) ≡⟨ ap (λ (x : K). p.s ⊗ h ⊗ f ⊕ p.t ⊗ x) d.1 ⟩
         p.s ⊗ h ⊗ f ⊕ p.t ⊗ (d.0 ⊗ f) ≡⟨ ring R (_ ∷ _ ∷ _ ∷ _ ∷ _ ∷ []) (A :* B :* C :+ D :* (E :* C)) ((A :* B :+ D :* E) :* C) refl ⟩

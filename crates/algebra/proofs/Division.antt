@@ -4,7 +4,7 @@ use Rattle.std.proofs.Common.{◌≡◌, ℕ, zero, suc, ◌+◌, ◌<◌, [], �
 use mathlib.Core.Path.{◌≡⟨◌⟩◌, ◌∎}
 use Rattle.algebra.specs.Ring.{Ring}
 use Rattle.algebra.proofs.Solver.{◌:+◌, ◌:-◌, ring, A, B, C}
-use Rattle.algebra.proofs.Laws.{⊗-zero, mul_assoc, add_zero, add_neg, mul_one, neg_zero, ac, ring_simp}
+use Rattle.algebra.proofs.Laws.{⊗_zero, mul_assoc, add_zero, add_neg, mul_one, neg_zero, ac, ring_simp}
 use Rattle.algebra.proofs.Seq.{Seqs, tail, zero_at, sum_at, neg_at}
 use Rattle.algebra.proofs.Bounds.{Below, cons, scale, below_nil, top_mul, cons_mul, cons_sum, cons_tail}
 
@@ -39,7 +39,7 @@ module _ {K : Type 0} (R : Ring K) where
         top = simp (sum_at, neg_at, mul_assoc, unit, mul_one, add_neg)
 
         above : d < i → (s +ₚ negₚ (scale R (s d ⊗ u) g)) i ≡ 𝟘
-        above l = simp (sum_at, neg_at, scale, p i l, g-low i l, ⊗-zero, neg_zero, add_zero)
+        above l = simp (sum_at, neg_at, scale, p i l, g-low i l, ⊗_zero, neg_zero, add_zero)
 
     cons_low : (c : K) (f : ℕ → K) (n : ℕ) → Below R n f → Below R (suc n) (cons R c f)
     cons_low c f n p zero h = absurd (not-suc-le-zero h)
@@ -71,5 +71,5 @@ module _ {K : Type 0} (R : Ring K) where
         hn =
             h n ≡⟨ sym (mul_one R (h n)) ∙ ap (λ (x : K). h n ⊗ x) (sym unit) ⟩
             h n ⊗ (u ⊗ g d) ≡⟨ (simp ac) ⟩
-            u ⊗ (h n ⊗ g d) ≡⟨ ap (λ (x : K). u ⊗ x) (sym (top_mul R n d h g p g-low) ∙ q (n + d) (omega arith)) ∙ ⊗-zero R u ⟩
+            u ⊗ (h n ⊗ g d) ≡⟨ ap (λ (x : K). u ⊗ x) (sym (top_mul R n d h g p g-low) ∙ q (n + d) (omega arith)) ∙ ⊗_zero R u ⟩
             𝟘 ∎

@@ -3,14 +3,14 @@
 use Rattle.std.proofs.Common.{◌≡◌, ℕ, zero, suc, ◌+◌, ◌<◌, ◌≤◌, [], ◌∷◌, sym, refl, ap, ◌∙◌, ap₂, ⊎_elim, arith}
 use Rattle.std.proofs.lemmas.Bool.{cases_eq}
 use Rattle.algebra.specs.Ring.{Ring}
-use Rattle.algebra.proofs.Laws.{zero-⊗, neg_neg, neg_zero, one-⊗, zero-⊕}
+use Rattle.algebra.proofs.Laws.{zero_⊗, neg_neg, neg_zero, one_⊗, zero_⊕}
 use Rattle.algebra.proofs.Solver.{var, :0, :1, ◌:+◌, ◌:*◌, :neg, ring, A, B, C, D, E, F}
 use Rattle.algebra.proofs.Combination.{total, total_zero, total_last}
 
 module _ {K : Type 0} (R : Ring K) where
   infixl 65 ◌⊕◌
   infixl 70 ◌⊗◌
-  open R use {𝟘, 𝟙, ◌⊕◌, ◌⊗◌, neg, ⊕-zero}
+  open R use {𝟘, 𝟙, ◌⊕◌, ◌⊗◌, neg, ⊕_zero}
 
   -- a sum depends on no more than its terms
   pub total_same : (n : ℕ) (f g : ℕ → K) → ((j : ℕ) → j < n → f j ≡ g j) → total R n f ≡ total R n g
@@ -21,7 +21,7 @@ module _ {K : Type 0} (R : Ring K) where
   -- a sum of zeros
   pub total_none : (n : ℕ) (f : ℕ → K) → ((j : ℕ) → j < n → f j ≡ 𝟘) → total R n f ≡ 𝟘
   total_none zero f e = total_zero R f
-  total_none (suc n) f e = total_last R n f ∙ ap₂ ◌⊕◌ (total_none n f (λ j h. e j (omega arith))) (e n (omega arith)) ∙ ⊕-zero 𝟘
+  total_none (suc n) f e = total_last R n f ∙ ap₂ ◌⊕◌ (total_none n f (λ j h. e j (omega arith))) (e n (omega arith)) ∙ ⊕_zero 𝟘
 
   -- zeros from n on add nothing
   pub total_longer : (k n : ℕ) (f : ℕ → K) → ((j : ℕ) → n ≤ j → j < k + n → f j ≡ 𝟘) → total R (k + n) f ≡ total R n f
@@ -29,7 +29,7 @@ module _ {K : Type 0} (R : Ring K) where
   total_longer (suc k) n f e =
       let s : suc k + n ≡ suc (k + n) = omega arith in
       ap (λ (x : ℕ). total R x f) s ∙ total_last R (k + n) f
-      ∙ ap₂ ◌⊕◌ (total_longer k n f (λ j h l. e j h (omega arith))) (e (k + n) (omega arith) (omega arith)) ∙ ⊕-zero (total R n f)
+      ∙ ap₂ ◌⊕◌ (total_longer k n f (λ j h l. e j h (omega arith))) (e (k + n) (omega arith) (omega arith)) ∙ ⊕_zero (total R n f)
 
   -- c 1 times v 1 and so on to c n times v n, summed: the combination of v 1 to v n with the coefficients c
   abbrev pub dot : ℕ → (ℕ → K) → (ℕ → K) → K
@@ -76,13 +76,13 @@ module _ {K : Type 0} (R : Ring K) where
       dot_more n c v
       ∙ ⊎_elim
       (λ (q : e ≡ suc n).
-      ap₂ ◌⊕◌ (total_none n _ (λ j l. ap (λ (x : K). x ⊗ v (suc j)) (none (suc j) (omega arith) (omega arith) (λ w. omega arith)) ∙ zero-⊗ R (v (suc j))))
-      (ap (λ (x : ℕ). c x ⊗ v x) (sym q) ∙ ap (λ (x : K). x ⊗ v e) one ∙ one-⊗ R (v e))
-      ∙ zero-⊕ R (v e))
+      ap₂ ◌⊕◌ (total_none n _ (λ j l. ap (λ (x : K). x ⊗ v (suc j)) (none (suc j) (omega arith) (omega arith) (λ w. omega arith)) ∙ zero_⊗ R (v (suc j))))
+      (ap (λ (x : ℕ). c x ⊗ v x) (sym q) ∙ ap (λ (x : K). x ⊗ v e) one ∙ one_⊗ R (v e))
+      ∙ zero_⊕ R (v e))
       (λ (q : e ≡ suc n → ⊥).
       ap₂ ◌⊕◌ (dot_unit n e c v h (omega arith) one (λ j l m. none j l (omega arith)))
-      (ap (λ (x : K). x ⊗ v (suc n)) (none (suc n) (omega arith) (omega arith) (λ w. q (sym w))) ∙ zero-⊗ R (v (suc n)))
-      ∙ ⊕-zero (v e))
+      (ap (λ (x : K). x ⊗ v (suc n)) (none (suc n) (omega arith) (omega arith) (λ w. q (sym w))) ∙ zero_⊗ R (v (suc n)))
+      ∙ ⊕_zero (v e))
       (cases_eq e (suc n))
 
   -- The columns p 1 to p n see every combination of rows 1 to n: one that is zero at these columns is trivial.
@@ -117,7 +117,7 @@ module _ {K : Type 0} (R : Ring K) where
     last_zero =
         let v : ℕ → K = λ j. row j (p (suc n)) in
         let e : 𝟘 ≡ neg (c (suc n)) =
-        sym (total_none n (λ j. rest (suc j) ⊗ v (suc j)) (λ j h. ap (λ (x : K). x ⊗ v (suc j)) (rest_zero (suc j) (omega arith) (omega arith)) ∙ zero-⊗ R (v (suc j))))
+        sym (total_none n (λ j. rest (suc j) ⊗ v (suc j)) (λ j h. ap (λ (x : K). x ⊗ v (suc j)) (rest_zero (suc j) (omega arith) (omega arith)) ∙ zero_⊗ R (v (suc j))))
         ∙ rest_is v
         ∙ ap₂ (λ (x y : K). b (suc n) ⊗ x ⊕ neg (c (suc n)) ⊗ y) (zeros (suc n) (omega arith) (omega arith)) unit
         ∙ ring R (b (suc n) ∷ c (suc n) ∷ []) (A :* :0 :+ :neg B :* :1) (:neg B) refl in

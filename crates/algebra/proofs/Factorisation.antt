@@ -5,7 +5,7 @@ use native.Mathlib.Decide.{dec_le}
 use Rattle.algebra.specs.Ring.{Scalars, Field}
 use Rattle.algebra.specs.Lists.{Each, Permuted}
 use Rattle.algebra.specs.Finite.{FiniteField}
-use Rattle.algebra.proofs.Laws.{mul_one, one-⊗, zero-⊗, mul_assoc}
+use Rattle.algebra.proofs.Laws.{mul_one, one_⊗, zero_⊗, mul_assoc}
 use Rattle.algebra.proofs.Solver.{◌:*◌, ring, A, B, C, D}
 use Rattle.algebra.proofs.Lists.{in_either, search_listing}
 use Rattle.algebra.proofs.Poly.{Poly, Polys, poly_dec, size, top}
@@ -67,7 +67,7 @@ module _ {K : Type 0} {S : Scalars K} (F : Field S) where
     where
       whole : (a b : Poly S) → const S c ⊗ f ≡ a ⊗ b → f ≡ const S d ⊗ a ⊗ b
       whole a b e =
-          sym (one-⊗ (Polys S) f) ∙ ap (λ (x : Poly S). x ⊗ f) (sym (const_one S) ∙ ap (const S) (sym u) ∙ const_mul S d c)
+          sym (one_⊗ (Polys S) f) ∙ ap (λ (x : Poly S). x ⊗ f) (sym (const_one S) ∙ ap (const S) (sym u) ∙ const_mul S d c)
           ∙ mul_assoc (Polys S) (const S d) (const S c) f ∙ ap (λ (x : Poly S). const S d ⊗ x) e ∙ sym (mul_assoc (Polys S) (const S d) a b)
 
       longer : (a b : Poly S) → const S c ⊗ f ≡ a ⊗ b → 2 ≤ size a → 2 ≤ size (const S d ⊗ a)
@@ -82,11 +82,11 @@ module _ {K : Type 0} {S : Scalars K} (F : Field S) where
       go : Scaled f → Factorisation f
       go s = record {
         unit = F.inv s.unit;
-        nonzero = λ z. F.apart (sym (F.inverse s.unit s.nonzero) ∙ ap (λ (x : K). S.ring.◌⊗◌ x s.unit) z ∙ zero-⊗ S.ring s.unit);
+        nonzero = λ z. F.apart (sym (F.inverse s.unit s.nonzero) ∙ ap (λ (x : K). S.ring.◌⊗◌ x s.unit) z ∙ zero_⊗ S.ring s.unit);
         atoms = g ∷ [];
         each = λ x j. elim j [ inl e ↦ subst (λ (y : Poly S). Atom y) (sym e) whole | inr k ↦ absurd k ];
         product =
-            sym (one-⊗ (Polys S) f) ∙ ap (λ (x : Poly S). x ⊗ f) (sym (const_one S) ∙ ap (const S) (sym (F.inverse s.unit s.nonzero)) ∙ const_mul S (F.inv s.unit) s.unit)
+            sym (one_⊗ (Polys S) f) ∙ ap (λ (x : Poly S). x ⊗ f) (sym (const_one S) ∙ ap (const S) (sym (F.inverse s.unit s.nonzero)) ∙ const_mul S (F.inv s.unit) s.unit)
             ∙ mul_assoc (Polys S) (const S (F.inv s.unit)) (const S s.unit) f
             ∙ ap (λ (x : Poly S). const S (F.inv s.unit) ⊗ x) (sym (prod_cons (Polys S) g [] ∙ ap (λ (x : Poly S). g ⊗ x) (prod_nil (Polys S)) ∙ mul_one (Polys S) g));
       }

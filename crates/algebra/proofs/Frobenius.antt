@@ -5,7 +5,7 @@ use mathlib.Core.Path.{fun_ext}
 use native.Mathlib.Nat.{pow-succ', pow-zero as pow-zero-ℕ}
 use Rattle.algebra.specs.Ring.{Ring}
 use Rattle.algebra.specs.Powers.{Divisor, Prime}
-use Rattle.algebra.proofs.Laws.{add_zero, zero-⊕, add_comm, dist-⊗, mul_one, one-⊗, zero-⊗, neg_unique, add_neg}
+use Rattle.algebra.proofs.Laws.{add_zero, zero_⊕, add_comm, dist_⊗, mul_one, one_⊗, zero_⊗, neg_unique, add_neg}
 use Rattle.algebra.proofs.Solver.{:0, ◌:+◌, ◌:*◌, ring, A, B, C, D, E, F}
 use Rattle.algebra.proofs.Seq.{tail}
 use Rattle.algebra.proofs.Bounds.{cons}
@@ -86,7 +86,7 @@ module _ {K : Type 0} (R : Ring K) (a b : K) where
       ∙ sym (ap₂ ◌⊕◌ (expand_suc n f) (expand_suc n g))
 
   expand_a : (n : ℕ) (f : ℕ → K) → a ⊗ expand n f ≡ expand (suc n) (cons R 𝟘 f)
-  expand_a n f = sym (expand_suc n (cons R 𝟘 f) ∙ ap (λ (x : K). x ⊕ a ⊗ expand n f) (zero-⊗ R _) ∙ zero-⊕ R _)
+  expand_a n f = sym (expand_suc n (cons R 𝟘 f) ∙ ap (λ (x : K). x ⊕ a ⊗ expand n f) (zero_⊗ R _) ∙ zero_⊕ R _)
 
   expand_b : (n : ℕ) (f : ℕ → K) → f (suc n) ≡ 𝟘 → b ⊗ expand n f ≡ expand (suc n) f
   expand_b zero f e =
@@ -102,16 +102,16 @@ module _ {K : Type 0} (R : Ring K) (a b : K) where
   pub binomial : (n : ℕ) → pow R (a ⊕ b) n ≡ expand n (λ k. times R (binom n k) 𝟙)
   binomial zero = pow_zero R _ ∙ sym (expand_zero _ ∙ rw (binom_none 0) (times_suc R 0 𝟙 ∙ ap (λ (x : K). 𝟙 ⊕ x) (times_zero R 𝟙) ∙ add_zero R 𝟙))
   binomial (suc n) =
-      pow_suc R (a ⊕ b) n ∙ ap (λ (x : K). (a ⊕ b) ⊗ x) (binomial n) ∙ dist-⊗ R a b _
+      pow_suc R (a ⊕ b) n ∙ ap (λ (x : K). (a ⊕ b) ⊗ x) (binomial n) ∙ dist_⊗ R a b _
       ∙ ap₂ ◌⊕◌ (expand_a n _) (expand_b n _ (rw (binom_over n (suc n) (le_refl (suc n))) (times_zero R 𝟙)))
       ∙ sym (expand_sum (suc n) _ _) ∙ ap (expand (suc n)) (fun_ext pascal)
     where
       pascal : (k : ℕ) → cons R 𝟘 (λ j. times R (binom n j) 𝟙) k ⊕ times R (binom n k) 𝟙 ≡ times R (binom (suc n) k) 𝟙
-      pascal zero = zero-⊕ R _ ∙ ap (λ (j : ℕ). times R j 𝟙) (binom_none n ∙ sym (binom_none (suc n)))
+      pascal zero = zero_⊕ R _ ∙ ap (λ (j : ℕ). times R j 𝟙) (binom_none n ∙ sym (binom_none (suc n)))
       pascal (suc k) = sym (times_add R (binom n k) (binom n (suc k)) 𝟙) ∙ ap (λ (j : ℕ). times R j 𝟙) (sym (binom_suc n k))
 
   expand_top : (n : ℕ) (f : ℕ → K) → ((k : ℕ) → k < n → f k ≡ 𝟘) → expand n f ≡ pow R a n ⊗ f n
-  expand_top zero f h = expand_zero f ∙ sym (ap (λ (x : K). x ⊗ f 0) (pow_zero R a) ∙ one-⊗ R (f 0))
+  expand_top zero f h = expand_zero f ∙ sym (ap (λ (x : K). x ⊗ f 0) (pow_zero R a) ∙ one_⊗ R (f 0))
   expand_top (suc n) f h =
       expand_suc n f ∙ ap₂ (λ (x y : K). x ⊗ pow R b (suc n) ⊕ a ⊗ y) (h 0 (omega arith)) (expand_top n (tail f) (λ k l. h (suc k) (omega arith)))
       ∙ ring R (pow R b (suc n) ∷ a ∷ pow R a n ∷ f (suc n) ∷ []) (:0 :* A :+ B :* (C :* D)) (B :* C :* D) refl
@@ -123,7 +123,7 @@ module _ {K : Type 0} (R : Ring K) (a b : K) where
   frobenius (suc p) h z =
       binomial (suc p) ∙ expand_suc p _
       ∙ ap₂ ◌⊕◌
-      (ap (λ (x : K). x ⊗ pow R b (suc p)) (ap (λ (j : ℕ). times R j 𝟙) (binom_none (suc p)) ∙ one) ∙ one-⊗ R _)
+      (ap (λ (x : K). x ⊗ pow R b (suc p)) (ap (λ (j : ℕ). times R j 𝟙) (binom_none (suc p)) ∙ one) ∙ one_⊗ R _)
       (ap (λ (x : K). a ⊗ x) (expand_top p _ (λ k l. multiples_vanish R (suc p) _ z (prime_binom (suc p) (suc k) h (omega arith) (omega arith)))
       ∙ ap (λ (x : K). pow R a p ⊗ x) (ap (λ (j : ℕ). times R j 𝟙) (binom_all (suc p)) ∙ one) ∙ mul_one R _) ∙ sym (pow_suc R a p))
       ∙ add_comm R _ _

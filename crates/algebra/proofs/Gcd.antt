@@ -4,7 +4,7 @@ use Rattle.std.proofs.Common.{◌≡◌, ℕ, zero, suc, ◌≤◌, ◌⊎◌, L
 use mathlib.Core.Path.{◌≡⟨◌⟩◌, ◌∎}
 use Rattle.algebra.specs.Ring.{Scalars, Field}
 use Rattle.algebra.specs.Lists.{In}
-use Rattle.algebra.proofs.Laws.{⊗-zero, ring_simp}
+use Rattle.algebra.proofs.Laws.{⊗_zero, ring_simp}
 use Rattle.algebra.proofs.Solver.{◌:+◌, ◌:*◌, ◌:-◌, ring, A, B, C, D, E}
 use Rattle.algebra.proofs.Poly.{Poly, Polys, size, size_zero}
 use Rattle.algebra.proofs.Divides.{Divides, Coprime, dvd_mul, dvd_sum, coprime_dvd}
@@ -95,7 +95,7 @@ module _ {K : Type 0} {S : Scalars K} (F : Field S) where
   shares_or_coprime f g pos c = by (size c.gcd) refl
     where
       by : (n : ℕ) → size c.gcd ≡ n → (2 ≤ size c.gcd) ⊎ Coprime (Polys S) f g
-      by zero e = absurd (size_nonzero f pos (c.left.1 ∙ ap (λ (x : Poly S). c.left.0 ⊗ x) (size_zero c.gcd e) ∙ ⊗-zero (Polys S) c.left.0))
+      by zero e = absurd (size_nonzero f pos (c.left.1 ∙ ap (λ (x : Poly S). c.left.0 ⊗ x) (size_zero c.gcd e) ∙ ⊗_zero (Polys S) c.left.0))
       by (suc zero) e = inr (coprime_of f g c e)
       by (suc (suc n)) e = inl (omega arith)
 

@@ -3,7 +3,7 @@
 use Rattle.std.proofs.Common.{◌≡◌, ℕ, zero, suc, ◌<◌, ◌≤◌, [], ◌∷◌, sym, refl, ap, ◌∙◌, ap₂, inl, inr, eq-or-lt_of_le, arith}
 use native.Mathlib.Nat.{suc_inj}
 use Rattle.algebra.specs.Ring.{Scalars, Field}
-use Rattle.algebra.proofs.Laws.{zero-⊕, add_zero, zero-⊗, one-⊗}
+use Rattle.algebra.proofs.Laws.{zero_⊕, add_zero, zero_⊗, one_⊗}
 use Rattle.algebra.proofs.Solver.{:0, ◌:+◌, ◌:*◌, :neg, ring, A, B, C, D}
 use Rattle.algebra.proofs.Seq.{tail}
 use Rattle.algebra.proofs.Poly.{Poly, Polys}
@@ -19,7 +19,7 @@ module _ {K : Type 0} {S : Scalars K} where
   pub combine_last : (n : ℕ) (c : ℕ → K) (u : ℕ → Poly S) → combine (suc n) c u ≡ combine n c u ⊕ const S (c n) ⊗ u n
   combine_last zero c u =
       total_suc (Polys S) 0 _ ∙ ap (λ (x : Poly S). const S (c 0) ⊗ u 0 ⊕ x) (total_zero (Polys S) _)
-      ∙ add_zero (Polys S) _ ∙ sym (ap (λ (x : Poly S). x ⊕ const S (c 0) ⊗ u 0) (total_zero (Polys S) _) ∙ zero-⊕ (Polys S) _)
+      ∙ add_zero (Polys S) _ ∙ sym (ap (λ (x : Poly S). x ⊕ const S (c 0) ⊗ u 0) (total_zero (Polys S) _) ∙ zero_⊕ (Polys S) _)
   combine_last (suc n) c u =
       total_suc (Polys S) (suc n) _ ∙ ap (λ (x : Poly S). const S (c 0) ⊗ u 0 ⊕ x) (combine_last n (tail c) (tail u))
       ∙ ring (Polys S) (const S (c 0) ⊗ u 0 ∷ combine n (tail c) (tail u) ∷ const S (c (suc n)) ⊗ u (suc n) ∷ []) (A :+ (B :+ C)) ((A :+ B) :+ C) refl
@@ -64,7 +64,7 @@ module _ {K : Type 0} {S : Scalars K} (F : Field S) where
 
           row : u n ≡ combine n (λ j. S.ring.◌⊗◌ (S.ring.neg (F.inv (c n))) (c j)) u
           row =
-              sym (one-⊗ (Polys S) (u n)) ∙ ap (λ (x : Poly S). x ⊗ u n) (sym unit)
+              sym (one_⊗ (Polys S) (u n)) ∙ ap (λ (x : Poly S). x ⊗ u n) (sym unit)
               ∙ ring (Polys S) (v ∷ const S (c n) ∷ u n ∷ combine n c u ∷ []) (A :* B :* C) (A :* (D :+ B :* C) :+ :neg A :* D) refl
               ∙ ap (λ (x : Poly S). v ⊗ x ⊕ neg v ⊗ combine n c u) split
               ∙ ring (Polys S) (v ∷ combine n c u ∷ []) (A :* :0 :+ :neg A :* B) (:neg A :* B) refl
@@ -72,7 +72,7 @@ module _ {K : Type 0} {S : Scalars K} (F : Field S) where
       go (yes z) i l h = elim (eq-or-lt_of_le h) [ inl e₁ ↦ ap c (suc_inj e₁) ∙ z | inr k ↦ ind c below i l (omega arith) ]
         where
           below : combine n c u ≡ 𝟘
-          below = sym (add_zero (Polys S) _) ∙ ap (λ (x : Poly S). combine n c u ⊕ x) (sym (ap (λ (x : Poly S). x ⊗ u n) (ap (const S) z ∙ const_zero S) ∙ zero-⊗ (Polys S) (u n))) ∙ split
+          below = sym (add_zero (Polys S) _) ∙ ap (λ (x : Poly S). combine n c u ⊕ x) (sym (ap (λ (x : Poly S). x ⊗ u n) (ap (const S) z ∙ const_zero S) ∙ zero_⊗ (Polys S) (u n))) ∙ split
 
   -- the rows before the first are independent, as none is asked for
   pub independent_none : (m : ℕ) (u : ℕ → Poly S) → Independent m m u

@@ -4,7 +4,7 @@ use Rattle.std.proofs.Common.{◌≡◌, ℕ, zero, suc, ◌<◌, ◌≤◌, Lis
 use mathlib.Core.Path.{◌≡⟨◌⟩◌, ◌∎}
 use Rattle.algebra.specs.Ring.{Scalars, Field}
 use Rattle.algebra.specs.Lists.{In, Distinct, Listing}
-use Rattle.algebra.proofs.Laws.{add_zero, zero-⊕, add_neg, mul_one, ⊗-zero, eq_of_diff}
+use Rattle.algebra.proofs.Laws.{add_zero, zero_⊕, add_neg, mul_one, ⊗_zero, eq_of_diff}
 use Rattle.algebra.proofs.Solver.{◌:+◌, ◌:*◌, :neg, ◌:-◌, ring, A, B, C, D}
 use Rattle.algebra.proofs.Lists.{in_map}
 use Rattle.algebra.proofs.Poly.{Poly, Polys, size, size_le, size_ge, one_coef_zero, one_coef_suc}
@@ -99,11 +99,11 @@ module _ {K : Type 0} {S : Scalars K} (F : Field S) where
           c = is_const S v.rest (omega (arith, v.smaller, linear_size w))
 
           nothing : S.ring.◌⊗◌ (at_point S w v.quotient) (at_point S w (minus S (X S) w)) ≡ S.ring.𝟘
-          nothing = ap (λ (x : K). S.ring.◌⊗◌ (at_point S w v.quotient) x) (at_minus S w w ∙ add_neg S.ring w) ∙ ⊗-zero S.ring _
+          nothing = ap (λ (x : K). S.ring.◌⊗◌ (at_point S w v.quotient) x) (at_minus S w w ∙ add_neg S.ring w) ∙ ⊗_zero S.ring _
 
           at : at_point S w v.rest ≡ S.ring.𝟘
           at =
-              at_point S w v.rest ≡⟨ sym (zero-⊕ S.ring _) ∙ ap (λ (x : K). S.ring.◌⊕◌ x (at_point S w v.rest)) (sym nothing) ⟩
+              at_point S w v.rest ≡⟨ sym (zero_⊕ S.ring _) ∙ ap (λ (x : K). S.ring.◌⊕◌ x (at_point S w v.rest)) (sym nothing) ⟩
               S.ring.◌⊕◌ (S.ring.◌⊗◌ (at_point S w v.quotient) (at_point S w (minus S (X S) w))) (at_point S w v.rest) ≡⟨
               sym (value_sum S (same S) w _ _ ∙ ap (λ (x : K). S.ring.◌⊕◌ x (at_point S w v.rest)) (value_mul S (same S) w _ _)) ⟩
               at_point S w (v.quotient ⊗ minus S (X S) w ⊕ v.rest) ≡⟨ ap (at_point S w) (sym v.adds_up) ∙ z ⟩

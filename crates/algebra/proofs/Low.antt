@@ -6,7 +6,7 @@ use native.Mathlib.Nat.{pow-zero, pow-succ'}
 use native.Mathlib.Bridge.{le_prop}
 use Rattle.algebra.specs.Ring.{Scalars}
 use Rattle.algebra.specs.Lists.{Listing}
-use Rattle.algebra.proofs.Laws.{add_zero, zero-⊕}
+use Rattle.algebra.proofs.Laws.{add_zero, zero_⊕}
 use Rattle.algebra.proofs.Lists.{listing_pair, listing_map}
 use Rattle.algebra.proofs.Poly.{Poly, Polys, poly_path, poly_dec, poly_set, size, size_le, size_zero, low, zero_size, sum_coef}
 use Rattle.algebra.proofs.Terms.{const, X, rest, rest_size, take_apart, const_coef_zero, const_coef_suc, X_coef_zero, X_coef_suc}
@@ -35,7 +35,7 @@ module _ {K : Type 0} (S : Scalars K) where
   onto_coef_zero c h = sum_coef S _ _ 0 ∙ ap₂ S.ring.◌⊕◌ (const_coef_zero S c) (X_coef_zero S h) ∙ add_zero S.ring c
 
   pub onto_coef_suc : (c : K) (h : Poly S) (i : ℕ) → (const S c ⊕ X S ⊗ h).coef (suc i) ≡ h.coef i
-  onto_coef_suc c h i = sum_coef S _ _ (suc i) ∙ ap₂ S.ring.◌⊕◌ (const_coef_suc S c i) (X_coef_suc S h i) ∙ zero-⊕ S.ring _
+  onto_coef_suc c h i = sum_coef S _ _ (suc i) ∙ ap₂ S.ring.◌⊕◌ (const_coef_suc S c i) (X_coef_suc S h i) ∙ zero_⊕ S.ring _
 
   -- a constant and a polynomial moved up
   onto : (n : ℕ) → K × Low n → Low (suc n)

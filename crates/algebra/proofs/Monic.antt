@@ -4,7 +4,7 @@ use Rattle.std.proofs.Common.{◌≡◌, ℕ, zero, suc, ◌+◌, ◌<◌, ◌�
 use native.Mathlib.Nat.{suc_inj}
 use Rattle.algebra.specs.Ring.{Scalars, Field}
 use Rattle.algebra.specs.Lists.{Each}
-use Rattle.algebra.proofs.Laws.{add_zero, mul_one, one-⊗, zero-⊗, neg_zero}
+use Rattle.algebra.proofs.Laws.{add_zero, mul_one, one_⊗, zero_⊗, neg_zero}
 use Rattle.algebra.proofs.Poly.{Poly, Polys, size, low, top, sum_coef, neg_coef, one_coef_zero}
 use Rattle.algebra.proofs.Divides.{Divides, dvd_trans, dvd_mul}
 use Rattle.algebra.proofs.Powers.{pow, pow_zero, pow_suc, prod, prod_nil, prod_cons}
@@ -69,7 +69,7 @@ module _ {K : Type 0} {S : Scalars K} (F : Field S) where
 
   -- monic polynomials of one size, one of which divides the other, are equal
   pub monic_divides : (f g : Poly S) → Monic f → Monic g → size f ≡ size g → Divides (Polys S) f g → f ≡ g
-  monic_divides f g m n e p = sym (p.1 ∙ ap (λ (x : Poly S). x ⊗ f) one ∙ one-⊗ (Polys S) f)
+  monic_divides f g m n e p = sym (p.1 ∙ ap (λ (x : Poly S). x ⊗ f) one ∙ one_⊗ (Polys S) f)
     where
       w : Factors g p.0 f
       w = factors F g p.0 f (omega (arith, n.sized)) p.1
@@ -104,7 +104,7 @@ module _ {K : Type 0} {S : Scalars K} (F : Field S) where
           u = F.inv (f.coef n)
 
           nz : u ≡ S.ring.𝟘 → ⊥
-          nz z = F.apart (sym (F.inverse (f.coef n) (top f n e)) ∙ ap (λ (x : K). S.ring.◌⊗◌ x (f.coef n)) z ∙ zero-⊗ S.ring _)
+          nz z = F.apart (sym (F.inverse (f.coef n) (top f n e)) ∙ ap (λ (x : K). S.ring.◌⊗◌ x (f.coef n)) z ∙ zero_⊗ S.ring _)
 
   pub monic_gcd_unique : (f g d e : Poly S) → MonicGcd f g d → MonicGcd f g e → d ≡ e
   monic_gcd_unique f g d e a b = monic_both d e a.monic b.monic (b.greatest d a.left a.right) (a.greatest e b.left b.right)

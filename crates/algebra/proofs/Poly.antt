@@ -127,14 +127,14 @@ module _ {K : Type 0} (S : Scalars K) where
         (λ i h. below_mul S.ring i f.coef g.coef (size f) (size g) (low f) (low g) (omega arith));
     neg = λ f. poly (size f) (Q.neg f.coef) (below_neg S.ring (size f) f.coef (low f));
     is_set = poly_set;
-    ⊕-assoc = λ f g h. poly_path _ _ (at (add_assoc Q f.coef g.coef h.coef));
-    ⊕-comm = λ f g. poly_path _ _ (at (add_comm Q f.coef g.coef));
-    ⊕-zero = λ f. poly_path _ _ (at (add_zero Q f.coef));
-    ⊕-neg = λ f. poly_path _ _ (at (add_neg Q f.coef));
-    ⊗-assoc = λ f g h. poly_path _ _ (at (mul_assoc Q f.coef g.coef h.coef));
-    ⊗-comm = λ f g. poly_path _ _ (at (mul_comm Q f.coef g.coef));
-    ⊗-one = λ f. poly_path _ _ (at (mul_one Q f.coef));
-    ⊗-dist = λ f g h. poly_path _ _ (at (mul_add Q f.coef g.coef h.coef));
+    ⊕_assoc = λ f g h. poly_path _ _ (at (add_assoc Q f.coef g.coef h.coef));
+    ⊕_comm = λ f g. poly_path _ _ (at (add_comm Q f.coef g.coef));
+    ⊕_zero = λ f. poly_path _ _ (at (add_zero Q f.coef));
+    ⊕_neg = λ f. poly_path _ _ (at (add_neg Q f.coef));
+    ⊗_assoc = λ f g h. poly_path _ _ (at (mul_assoc Q f.coef g.coef h.coef));
+    ⊗_comm = λ f g. poly_path _ _ (at (mul_comm Q f.coef g.coef));
+    ⊗_one = λ f. poly_path _ _ (at (mul_one Q f.coef));
+    ⊗_dist = λ f g h. poly_path _ _ (at (mul_add Q f.coef g.coef h.coef));
   }
     where
       one_low : Below S.ring 1 Q.𝟙

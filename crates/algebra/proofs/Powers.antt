@@ -4,7 +4,7 @@ use Rattle.std.proofs.Common.{◌≡◌, ℕ, zero, suc, ◌+◌, ◌*◌, ◌�
 use Rattle.algebra.specs.Ring.{Ring}
 pub use Rattle.algebra.specs.Powers.{pow, times, prod}
 use Rattle.algebra.specs.Lists.{In, Distinct, Put, here, there, Permuted, none, put}
-use Rattle.algebra.proofs.Laws.{add_assoc, add_zero, zero-⊕, add_comm, mul_assoc, mul_comm, ⊗_left_comm, one-⊗, mul_one, zero-⊗, dist-⊗}
+use Rattle.algebra.proofs.Laws.{add_assoc, add_zero, zero_⊕, add_comm, mul_assoc, mul_comm, ⊗_left_comm, one_⊗, mul_one, zero_⊗, dist_⊗}
 use Rattle.algebra.proofs.Solver.{:0, :1, ◌:+◌, ◌:*◌, ◌:-◌, ring, A, B, C, D}
 use Rattle.algebra.proofs.Divides.{Divides, Coprime, coprime_mul, coprime_one, dvd_mul, dvd_sum}
 use Rattle.algebra.proofs.Lists.{find, put_length, put_less}
@@ -48,7 +48,7 @@ module _ {K : Type 0} (R : Ring K) where
   one_pow (suc n) = simp (pow_suc, one_pow n, mul_one)
 
   pub zero_pow : (n : ℕ) → pow R 𝟘 (suc n) ≡ 𝟘
-  zero_pow n = pow_suc 𝟘 n ∙ zero-⊗ R _
+  zero_pow n = pow_suc 𝟘 n ∙ zero_⊗ R _
 
   pub zero_pow_pos : (n : ℕ) → 1 ≤ n → pow R 𝟘 n ≡ 𝟘
   zero_pow_pos zero l = absurd (omega arith)
@@ -59,7 +59,7 @@ module _ {K : Type 0} (R : Ring K) where
   mul_pow a b (suc n) = simp (pow_suc, mul_pow a b n) (ring R (_ ∷ _ ∷ _ ∷ _ ∷ []) (A :* B :* (C :* D)) (A :* C :* (B :* D)) refl)
 
   pub pow_add : (a : K) (m n : ℕ) → pow R a (m + n) ≡ pow R a m ⊗ pow R a n
-  pow_add a zero n = rw (zero-add n, pow_zero a) (sym (one-⊗ R (pow R a n)))
+  pow_add a zero n = rw (zero-add n, pow_zero a) (sym (one_⊗ R (pow R a n)))
   pow_add a (suc m) n = rw (suc-add m n, pow_suc a (m + n), pow_add a m n, pow_suc a m) (sym (mul_assoc R a (pow R a m) (pow R a n)))
 
   pub pow_mul : (a : K) (m n : ℕ) → pow R a (m * n) ≡ pow R (pow R a m) n
@@ -75,19 +75,19 @@ module _ {K : Type 0} (R : Ring K) where
   times_sum (suc n) a b = simp (times_suc, times_sum n a b) (ring R (_ ∷ _ ∷ _ ∷ _ ∷ []) (A :+ B :+ (C :+ D)) (A :+ C :+ (B :+ D)) refl)
 
   pub times_add : (m n : ℕ) (a : K) → times R (m + n) a ≡ times R m a ⊕ times R n a
-  times_add zero n a = rw (zero-add n, times_zero a) (sym (zero-⊕ R (times R n a)))
+  times_add zero n a = rw (zero-add n, times_zero a) (sym (zero_⊕ R (times R n a)))
   times_add (suc m) n a = rw (suc-add m n, times_suc (m + n) a, times_add m n a, times_suc m a) (sym (add_assoc R a (times R m a) (times R n a)))
 
-  pub times-⊗ : (n : ℕ) (a b : K) → times R n a ⊗ b ≡ times R n (a ⊗ b)
-  times-⊗ zero a b = simp (times_zero, zero-⊗)
-  times-⊗ (suc n) a b = simp (times_suc, dist-⊗, times-⊗ n a b)
+  pub times_⊗ : (n : ℕ) (a b : K) → times R n a ⊗ b ≡ times R n (a ⊗ b)
+  times_⊗ zero a b = simp (times_zero, zero_⊗)
+  times_⊗ (suc n) a b = simp (times_suc, dist_⊗, times_⊗ n a b)
 
-  pub ⊗-times : (n : ℕ) (a b : K) → a ⊗ times R n b ≡ times R n (a ⊗ b)
-  ⊗-times n a b = mul_comm R a (times R n b) ∙ times-⊗ n b a ∙ ap (times R n) (mul_comm R b a)
+  pub ⊗_times : (n : ℕ) (a b : K) → a ⊗ times R n b ≡ times R n (a ⊗ b)
+  ⊗_times n a b = mul_comm R a (times R n b) ∙ times_⊗ n b a ∙ ap (times R n) (mul_comm R b a)
 
   -- multiples are products with multiples of one
   pub times_one : (n : ℕ) (a : K) → times R n a ≡ times R n 𝟙 ⊗ a
-  times_one n a = ap (times R n) (sym (one-⊗ R a)) ∙ sym (times-⊗ n 𝟙 a)
+  times_one n a = ap (times R n) (sym (one_⊗ R a)) ∙ sym (times_⊗ n 𝟙 a)
 
   pub times_mul : (m n : ℕ) (a : K) → times R (m * n) a ≡ times R m (times R n a)
   times_mul zero n a = rw (zero-mul n, times_zero a, times_zero (times R n a))
@@ -122,11 +122,11 @@ module _ {K : Type 0} (R : Ring K) where
   -- each element of a list times a: the product gains a power of a
   pub prod_scaled : (a : K) (xs : List K) → prod R (map (λ x. a ⊗ x) xs) ≡ pow R a (length xs) ⊗ prod R xs
   unfolding prod pow
-  prod_scaled a [] = sym (one-⊗ R 𝟙)
+  prod_scaled a [] = sym (one_⊗ R 𝟙)
   prod_scaled a (x ∷ xs) = ap (λ (k : K). (a ⊗ x) ⊗ k) (prod_scaled a xs) ∙ ring R (_ ∷ _ ∷ _ ∷ _ ∷ []) (A :* B :* (C :* D)) (A :* C :* (B :* D)) refl
 
   pub prod_append : (xs ys : List K) → prod R (xs ++ ys) ≡ prod R xs ⊗ prod R ys
-  prod_append [] ys = sym (ap (λ (k : K). k ⊗ prod R ys) prod_nil ∙ one-⊗ R _)
+  prod_append [] ys = sym (ap (λ (k : K). k ⊗ prod R ys) prod_nil ∙ one_⊗ R _)
   prod_append (x ∷ xs) ys =
       prod_cons x (xs ++ ys) ∙ ap (λ (k : K). x ⊗ k) (prod_append xs ys) ∙ sym (ap (λ (k : K). k ⊗ prod R ys) (prod_cons x xs) ∙ mul_assoc R x (prod R xs) (prod R ys))
 

@@ -35,16 +35,16 @@ module _ {K : Type 0} {S : Scalars K} {f : Poly S} (l : Leading f) where
     ◌⊗◌ = λ a b. (rem l (a.0 ⊗ b.0), rem_size l (a.0 ⊗ b.0));
     neg = λ a. (neg a.0, size_neg a.0 l.deg a.1);
     is_set = low_set S l.deg;
-    ⊕-assoc = λ a b c. low_path S l.deg (add_assoc (Polys S) a.0 b.0 c.0);
-    ⊕-comm = λ a b. low_path S l.deg (add_comm (Polys S) a.0 b.0);
-    ⊕-zero = λ a. low_path S l.deg (add_zero (Polys S) a.0);
-    ⊕-neg = λ a. low_path S l.deg (add_neg (Polys S) a.0);
-    ⊗-assoc = λ a b c. low_path S l.deg (
+    ⊕_assoc = λ a b c. low_path S l.deg (add_assoc (Polys S) a.0 b.0 c.0);
+    ⊕_comm = λ a b. low_path S l.deg (add_comm (Polys S) a.0 b.0);
+    ⊕_zero = λ a. low_path S l.deg (add_zero (Polys S) a.0);
+    ⊕_neg = λ a. low_path S l.deg (add_neg (Polys S) a.0);
+    ⊗_assoc = λ a b c. low_path S l.deg (
         ap (rem l) (mul_comm (Polys S) (rem l (a.0 ⊗ b.0)) c.0) ∙ rem_mul l c.0 (a.0 ⊗ b.0)
         ∙ ap (rem l) (mul_comm (Polys S) c.0 (a.0 ⊗ b.0) ∙ mul_assoc (Polys S) a.0 b.0 c.0) ∙ sym (rem_mul l a.0 (b.0 ⊗ c.0)));
-    ⊗-comm = λ a b. low_path S l.deg (ap (rem l) (mul_comm (Polys S) a.0 b.0));
-    ⊗-one = λ a. low_path S l.deg (rem_mul l a.0 𝟙 ∙ ap (rem l) (mul_one (Polys S) a.0) ∙ rem_small l a.0 a.1);
-    ⊗-dist = λ a b c. low_path S l.deg (ap (rem l) (mul_add (Polys S) a.0 b.0 c.0) ∙ rem_sum l (a.0 ⊗ b.0) (a.0 ⊗ c.0));
+    ⊗_comm = λ a b. low_path S l.deg (ap (rem l) (mul_comm (Polys S) a.0 b.0));
+    ⊗_one = λ a. low_path S l.deg (rem_mul l a.0 𝟙 ∙ ap (rem l) (mul_one (Polys S) a.0) ∙ rem_small l a.0 a.1);
+    ⊗_dist = λ a b c. low_path S l.deg (ap (rem l) (mul_add (Polys S) a.0 b.0 c.0) ∙ rem_sum l (a.0 ⊗ b.0) (a.0 ⊗ c.0));
   }
 
   abbrev pub QuotientScalars : Scalars Residue

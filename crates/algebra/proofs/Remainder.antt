@@ -2,7 +2,7 @@
 -- Main statements: Leading, monic_leading, field_leading, quo, rem, rem_adds, rem_size, rem_unique, rem_zero, rem_mul.
 use Rattle.std.proofs.Common.{◌≡◌, ℕ, zero, suc, ◌≤◌, ◌↔◌, [], ◌∷◌, sym, refl, ap, ◌∙◌, subst, arith}
 use Rattle.algebra.specs.Ring.{Scalars, Field}
-use Rattle.algebra.proofs.Laws.{add_zero, one-⊗, zero-⊗, ⊗-zero, add_neg, eq_of_diff}
+use Rattle.algebra.proofs.Laws.{add_zero, one_⊗, zero_⊗, ⊗_zero, add_neg, eq_of_diff}
 use Rattle.algebra.proofs.Solver.{:0, ◌:+◌, ◌:*◌, :neg, ◌:-◌, ring, A, B, C, D}
 use Rattle.algebra.proofs.Seq.{sum_at, zero_at}
 use Rattle.algebra.proofs.Bounds.{Below}
@@ -22,15 +22,15 @@ module _ {K : Type 0} {S : Scalars K} where
     pub unit : S.ring.◌⊗◌ inv (f.coef deg) ≡ S.ring.𝟙
 
   pub monic_leading : (f : Poly S) → Monic f → Leading f
-  monic_leading f m = record { deg = m.deg; bound = omega (arith, m.sized); inv = S.ring.𝟙; unit = one-⊗ S.ring _ ∙ m.leads }
+  monic_leading f m = record { deg = m.deg; bound = omega (arith, m.sized); inv = S.ring.𝟙; unit = one_⊗ S.ring _ ∙ m.leads }
 
   -- the degree is what it says, unless zero is one
   pub leading_size : (f : Poly S) → (S.ring.𝟙 ≡ S.ring.𝟘 → ⊥) → (l : Leading f) → size f ≡ suc l.deg
-  leading_size f n l = omega (arith, l.bound, size_ge f l.deg (λ e. n (sym l.unit ∙ ap (λ (x : K). S.ring.◌⊗◌ l.inv x) e ∙ ⊗-zero S.ring _)))
+  leading_size f n l = omega (arith, l.bound, size_ge f l.deg (λ e. n (sym l.unit ∙ ap (λ (x : K). S.ring.◌⊗◌ l.inv x) e ∙ ⊗_zero S.ring _)))
 
   -- a scalar factor keeps a bound of the size
   pub scale_size : (c : K) (f : Poly S) (n : ℕ) → size f ≤ n → size ((Polys S).◌⊗◌ (const S c) f) ≤ n
-  scale_size c f n h = size_le ((Polys S).◌⊗◌ (const S c) f) n (λ i k. const_mul_coef S c f i ∙ ap (λ (x : K). S.ring.◌⊗◌ c x) (low f i (omega arith)) ∙ ⊗-zero S.ring c)
+  scale_size c f n h = size_le ((Polys S).◌⊗◌ (const S c) f) n (λ i k. const_mul_coef S c f i ∙ ap (λ (x : K). S.ring.◌⊗◌ c x) (low f i (omega arith)) ∙ ⊗_zero S.ring c)
 
 module _ {K : Type 0} {S : Scalars K} (F : Field S) where
   -- over a field, any polynomial but zero has an invertible highest coefficient
@@ -77,7 +77,7 @@ module _ {K : Type 0} {S : Scalars K} {f : Poly S} (l : Leading f) where
 
   -- a multiple of lower degree is zero
   pub small_multiple : (g : Poly S) → f ∣ g → size g ≤ l.deg → g ≡ 𝟘
-  small_multiple g d h = d.1 ∙ ap (λ (x : Poly S). x ⊗ f) none ∙ zero-⊗ (Polys S) f
+  small_multiple g d h = d.1 ∙ ap (λ (x : Poly S). x ⊗ f) none ∙ zero_⊗ (Polys S) f
     where
       none : d.0 ≡ 𝟘
       none = poly_path d.0 𝟘 (λ i. ap (λ (x : ℕ → K). x i)
@@ -95,7 +95,7 @@ module _ {K : Type 0} {S : Scalars K} {f : Poly S} (l : Leading f) where
       (dvd_sum (Polys S) f _ _ d (dvd_neg (Polys S) f _ (rem_same v))))
 
   pub rem_small : (v : Poly S) → size v ≤ l.deg → rem v ≡ v
-  rem_small v h = rem_unique v v h (𝟘, add_neg (Polys S) v ∙ sym (zero-⊗ (Polys S) f))
+  rem_small v h = rem_unique v v h (𝟘, add_neg (Polys S) v ∙ sym (zero_⊗ (Polys S) f))
 
   -- what is equal modulo f has the same remainder
   pub rem_cong : (v w : Poly S) → f ∣ v ⊕ neg w → rem v ≡ rem w

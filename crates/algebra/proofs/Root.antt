@@ -5,7 +5,7 @@ use native.Mathlib.Nat.{mul-mod_left}
 use native.Mathlib.Decide.{dec_le}
 use Rattle.algebra.specs.Ring.{Scalars, Field}
 use Rattle.algebra.specs.Powers.{Characteristic, Divisor, Prime}
-use Rattle.algebra.proofs.Laws.{add_zero, zero-⊕}
+use Rattle.algebra.proofs.Laws.{add_zero, zero_⊕}
 use Rattle.algebra.proofs.Poly.{Poly, Polys, poly, poly_path, poly_coef, size, low, size_zero, zero_size, zero_coef, sum_coef}
 use Rattle.algebra.proofs.Powers.{pow, times, zero_pow_pos, mul_pow, pow_mul, one_pow, times_one}
 use Rattle.algebra.proofs.Monic.{Monic}
@@ -56,14 +56,14 @@ module _ {K : Type 0} {S : Scalars K} (p : ℕ) (h : Prime p) (z : times S.ring 
   at_multiple (suc n) g l (suc i) =
       split g (suc i * p) ∙ ap₂ S.ring.◌⊕◌ (const_high S _ (suc i * p) (omega (arith, h.two)))
       (ap (λ (k : ℕ). (pow (Polys S) (X S) p ⊗ pow (Polys S) (rest S g) p).coef k) up ∙ X_pow_above S p _ (i * p) ∙ at_multiple n (rest S g) (rest_size S g n l) i ∙ ap (λ (x : K). pow S.ring x p) (rest_coef S g i))
-      ∙ zero-⊕ S.ring _
+      ∙ zero_⊕ S.ring _
     where
       up : suc i * p ≡ p + i * p
       up = omega arith
 
   at_other : (n : ℕ) (g : Poly S) → size g ≤ n → (k : ℕ) → (Divisor p k → ⊥) → (pow (Polys S) g p).coef k ≡ S.ring.𝟘
   at_other zero g l k d = ap (λ (x : Poly S). x.coef k) (zero_power g l) ∙ zero_coef S _
-  at_other (suc n) g l k d = split g k ∙ ap₂ S.ring.◌⊕◌ (const_high S _ k (positive k refl)) (go (at_other n (rest S g) (rest_size S g n l)) (dec_le p k)) ∙ zero-⊕ S.ring _
+  at_other (suc n) g l k d = split g k ∙ ap₂ S.ring.◌⊕◌ (const_high S _ k (positive k refl)) (go (at_other n (rest S g) (rest_size S g n l)) (dec_le p k)) ∙ zero_⊕ S.ring _
     where
       positive : (j : ℕ) → k ≡ j → 1 ≤ k
       positive zero e = absurd (d (0, omega arith))

@@ -4,7 +4,7 @@ use Rattle.std.proofs.Common.{◌≡◌, ℕ, zero, suc, refl, ◌∙◌}
 use mathlib.Core.Path.{fun_ext}
 use mathlib.Core.HLevel.{→_set}
 use Rattle.algebra.specs.Ring.{Ring}
-use Rattle.algebra.proofs.Laws.{one-⊗, zero-⊗, add_assoc, add_comm, mul_assoc, mul_comm, mul_add, dist-⊗, add_zero, add_neg, ac}
+use Rattle.algebra.proofs.Laws.{one_⊗, zero_⊗, add_assoc, add_comm, mul_assoc, mul_comm, mul_add, dist_⊗, add_zero, add_neg, ac}
 
 -- the sequence from its second element on
 abbrev pub tail : {K : Type 0} → (ℕ → K) → ℕ → K
@@ -49,16 +49,16 @@ module _ {K : Type 0} (R : Ring K) where
   mul_sum f g h (suc n) = simp (mul_at_suc, mul_sum (tail f) g h n, mul_add, ac)
 
   sum_mul : (f g h : ℕ → K) (n : ℕ) → mul (sum f g) h n ≡ mul f h n ⊕ mul g h n
-  sum_mul f g h zero = simp (mul_at_zero, dist-⊗)
-  sum_mul f g h (suc n) = simp (mul_at_suc, sum_mul (tail f) (tail g) h n, dist-⊗, ac)
+  sum_mul f g h zero = simp (mul_at_zero, dist_⊗)
+  sum_mul f g h (suc n) = simp (mul_at_suc, sum_mul (tail f) (tail g) h n, dist_⊗, ac)
 
   scale_mul : (c : K) (f g : ℕ → K) (n : ℕ) → mul (scale c f) g n ≡ c ⊗ mul f g n
   scale_mul c f g zero = simp (mul_at_zero, mul_assoc)
   scale_mul c f g (suc n) = simp (mul_at_suc, scale_mul c (tail f) g n, mul_add, mul_assoc)
 
   nil_mul : (g : ℕ → K) (n : ℕ) → mul nil g n ≡ 𝟘
-  nil_mul g zero = simp (mul_at_zero, zero-⊗)
-  nil_mul g (suc n) = simp (mul_at_suc, nil_mul g n, zero-⊗, add_zero)
+  nil_mul g zero = simp (mul_at_zero, zero_⊗)
+  nil_mul g (suc n) = simp (mul_at_suc, nil_mul g n, zero_⊗, add_zero)
 
   -- the other recursion: the last factor's constant split off
   mul_last : (f g : ℕ → K) (n : ℕ) → mul f g (suc n) ≡ mul f (tail g) n ⊕ f (suc n) ⊗ g 0
@@ -79,8 +79,8 @@ module _ {K : Type 0} (R : Ring K) where
       (simp (mul_at_suc, mul_at_zero, mul_add, mul_assoc, add_assoc))
 
   one_mul : (g : ℕ → K) (n : ℕ) → mul one g n ≡ g n
-  one_mul g zero = simp (mul_at_zero, one-⊗)
-  one_mul g (suc n) = simp (mul_at_suc, nil_mul g n, one-⊗, add_zero)
+  one_mul g zero = simp (mul_at_zero, one_⊗)
+  one_mul g (suc n) = simp (mul_at_suc, nil_mul g n, one_⊗, add_zero)
 
   -- the ring of sequences
   pub Seqs : Ring (ℕ → K)
@@ -91,14 +91,14 @@ module _ {K : Type 0} (R : Ring K) where
     ◌⊗◌ = mul;
     neg = opp;
     is_set = →_set is_set;
-    ⊕-assoc = λ f g h. fun_ext (λ i. add_assoc R (f i) (g i) (h i));
-    ⊕-comm = λ f g. fun_ext (λ i. add_comm R (f i) (g i));
-    ⊕-zero = λ f. fun_ext (λ i. add_zero R (f i));
-    ⊕-neg = λ f. fun_ext (λ i. add_neg R (f i));
-    ⊗-assoc = λ f g h. fun_ext (mul_assoc_at f g h);
-    ⊗-comm = λ f g. fun_ext (mul_comm_at f g);
-    ⊗-one = λ f. fun_ext (λ n. mul_comm_at f one n ∙ one_mul f n);
-    ⊗-dist = λ f g h. fun_ext (mul_sum f g h);
+    ⊕_assoc = λ f g h. fun_ext (λ i. add_assoc R (f i) (g i) (h i));
+    ⊕_comm = λ f g. fun_ext (λ i. add_comm R (f i) (g i));
+    ⊕_zero = λ f. fun_ext (λ i. add_zero R (f i));
+    ⊕_neg = λ f. fun_ext (λ i. add_neg R (f i));
+    ⊗_assoc = λ f g h. fun_ext (mul_assoc_at f g h);
+    ⊗_comm = λ f g. fun_ext (mul_comm_at f g);
+    ⊗_one = λ f. fun_ext (λ n. mul_comm_at f one n ∙ one_mul f n);
+    ⊗_dist = λ f g h. fun_ext (mul_sum f g h);
   }
 
   -- its operations, element by element

@@ -2,7 +2,7 @@
 -- Main statements: at_shift, compose_combine, compose_variable, combine_modulo.
 use Rattle.std.proofs.Common.{◌≡◌, ℕ, zero, suc, ◌<◌, ◌≤◌, [], ◌∷◌, sym, refl, ap, ◌∙◌, subst, ap₂, le_refl, arith}
 use Rattle.algebra.specs.Ring.{Ring, Scalars, Field}
-use Rattle.algebra.proofs.Laws.{add_neg, zero-⊗}
+use Rattle.algebra.proofs.Laws.{add_neg, zero_⊗}
 use Rattle.algebra.proofs.Solver.{◌:+◌, ◌:*◌, ◌:-◌, ring, A, B, C, D, E}
 use Rattle.algebra.proofs.Divides.{Divides as DividesPoly, dvd_trans, dvd_mul, dvd_sum}
 use Rattle.algebra.proofs.Poly.{Poly, Polys, size}
@@ -68,7 +68,7 @@ module _ {K : Type 0} {S : Scalars K} where
 
   -- combinations of polynomials that are equal modulo f
   pub combine_modulo : (f : Poly S) (n : ℕ) (c : ℕ → K) (u v : ℕ → Poly S) → ((j : ℕ) → j < n → DividesPoly R f (R.◌⊕◌ (u j) (R.neg (v j)))) → DividesPoly R f (R.◌⊕◌ (combine n c u) (R.neg (combine n c v)))
-  combine_modulo f zero c u v h = (R.𝟘, ap₂ (λ (x y : Poly S). R.◌⊕◌ x (R.neg y)) (total_zero R _) (total_zero R _) ∙ add_neg R _ ∙ sym (zero-⊗ R f))
+  combine_modulo f zero c u v h = (R.𝟘, ap₂ (λ (x y : Poly S). R.◌⊕◌ x (R.neg y)) (total_zero R _) (total_zero R _) ∙ add_neg R _ ∙ sym (zero_⊗ R f))
   combine_modulo f (suc n) c u v h = subst (DividesPoly R f)
       (ring R (combine n c u ∷ combine n c v ∷ const S (c n) ∷ u n ∷ v n ∷ []) ((A :- B) :+ C :* (D :- E)) ((A :+ C :* D) :- (B :+ C :* E)) refl
       ∙ sym (ap₂ (λ (x y : Poly S). R.◌⊕◌ x (R.neg y)) (total_last R n _) (total_last R n _)))

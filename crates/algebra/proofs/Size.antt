@@ -2,7 +2,7 @@
 -- Main statements: zero_factor, Factors, Divided, size_sum_left, size_mul, factors, dvd_size, poly_cancel, divided, size_pow.
 use Rattle.std.proofs.Common.{◌≡◌, ℕ, zero, suc, ◌+◌, ◌*◌, ◌<◌, ◌≤◌, ◌⊎◌, [], ◌∷◌, sym, refl, ap, ◌∙◌, inl, inr, le_refl, arith}
 use Rattle.algebra.specs.Ring.{Scalars, Field}
-use Rattle.algebra.proofs.Laws.{add_zero, mul_assoc, one-⊗, zero-⊗, ⊗-zero, neg_zero, eq_of_diff}
+use Rattle.algebra.proofs.Laws.{add_zero, mul_assoc, one_⊗, zero_⊗, ⊗_zero, neg_zero, eq_of_diff}
 use Rattle.algebra.proofs.Solver.{:0, ◌:*◌, ◌:-◌, ring, A, B, C}
 use Rattle.algebra.proofs.Seq.{sum_at}
 use Rattle.algebra.proofs.Bounds.{Below, top_mul, below_mul}
@@ -15,15 +15,15 @@ module _ {K : Type 0} {S : Scalars K} (F : Field S) where
   -- cancelling in the field
   pub cancel_scalar : (a x y : K) → (a ≡ S.ring.𝟘 → ⊥) → S.ring.◌⊗◌ a x ≡ S.ring.◌⊗◌ a y → x ≡ y
   cancel_scalar a x y n e = cc (
-    one-⊗ S.ring x,
-    one-⊗ S.ring y,
+    one_⊗ S.ring x,
+    one_⊗ S.ring y,
     F.inverse a n,
     mul_assoc S.ring (F.inv a) a x,
     mul_assoc S.ring (F.inv a) a y,
   )
 
   pub no_zero_divisors : (a b : K) → (a ≡ S.ring.𝟘 → ⊥) → (b ≡ S.ring.𝟘 → ⊥) → S.ring.◌⊗◌ a b ≡ S.ring.𝟘 → ⊥
-  no_zero_divisors a b n k e = k (cancel_scalar a b S.ring.𝟘 n (e ∙ sym (⊗-zero S.ring a)))
+  no_zero_divisors a b n k e = k (cancel_scalar a b S.ring.𝟘 n (e ∙ sym (⊗_zero S.ring a)))
 
   -- a product in the field is zero only if a factor is
   pub zero_factor : (a b : K) → S.ring.◌⊗◌ a b ≡ S.ring.𝟘 → (a ≡ S.ring.𝟘) ⊎ (b ≡ S.ring.𝟘)
@@ -31,7 +31,7 @@ module _ {K : Type 0} {S : Scalars K} (F : Field S) where
     where
       go : Dec (a ≡ S.ring.𝟘) → (a ≡ S.ring.𝟘) ⊎ (b ≡ S.ring.𝟘)
       go (yes p) = inl p
-      go (no n) = inr (cancel_scalar a b S.ring.𝟘 n (e ∙ sym (⊗-zero S.ring a)))
+      go (no n) = inr (cancel_scalar a b S.ring.𝟘 n (e ∙ sym (⊗_zero S.ring a)))
 
 module _ {K : Type 0} {S : Scalars K} where
   infixl 65 ◌⊕◌
@@ -120,8 +120,8 @@ module _ {K : Type 0} {S : Scalars K} (F : Field S) where
   factors f a b h e = go (size a) (size b) refl refl
     where
       go : (m n : ℕ) → size a ≡ m → size b ≡ n → Factors f a b
-      go zero n p q = absurd (size_nonzero f h (e ∙ ap (λ (x : Poly S). x ⊗ b) (size_zero a p) ∙ zero-⊗ (Polys S) b))
-      go (suc m) zero p q = absurd (size_nonzero f h (e ∙ ap (λ (x : Poly S). a ⊗ x) (size_zero b q) ∙ ⊗-zero (Polys S) a))
+      go zero n p q = absurd (size_nonzero f h (e ∙ ap (λ (x : Poly S). x ⊗ b) (size_zero a p) ∙ zero_⊗ (Polys S) b))
+      go (suc m) zero p q = absurd (size_nonzero f h (e ∙ ap (λ (x : Poly S). a ⊗ x) (size_zero b q) ∙ ⊗_zero (Polys S) a))
       go (suc m) (suc n) p q = record { left = omega arith; right = omega arith; sizes = omega (arith, ap size e, size_mul a b m n p q) }
 
   -- a divisor of a polynomial that is not zero is no longer than it
@@ -185,7 +185,7 @@ module _ {K : Type 0} {S : Scalars K} (F : Field S) where
   dvd_back f d h e s = go (one_dvd h s)
     where
       go : Divides (Polys S) h 𝟙 → Divides (Polys S) f d
-      go u = (u.0, sym (one-⊗ (Polys S) d) ∙ ap (λ (x : Poly S). x ⊗ d) u.1 ∙ mul_assoc (Polys S) u.0 h d ∙ ap (λ (x : Poly S). u.0 ⊗ x) (sym e))
+      go u = (u.0, sym (one_⊗ (Polys S) d) ∙ ap (λ (x : Poly S). x ⊗ d) u.1 ∙ mul_assoc (Polys S) u.0 h d ∙ ap (λ (x : Poly S). u.0 ⊗ x) (sym e))
 
   -- the degree of the n-th power is n times the degree
   pub size_pow : (f : Poly S) (m n : ℕ) → size f ≡ suc m → size (pow (Polys S) f n) ≡ suc (n * m)

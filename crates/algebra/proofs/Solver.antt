@@ -3,7 +3,7 @@
 use Rattle.std.proofs.Common.{◌≡◌, ℕ, Bool, true, false, cond, not, ◌&&◌, T, eqb, ltb, List, [], ◌∷◌, get_or, sym, refl, ap, ◌∙◌, subst, ap₂, eqb→eq}
 use mathlib.Core.Bool.{beq}
 use Rattle.algebra.specs.Ring.{Ring}
-use Rattle.algebra.proofs.Laws.{zero-⊕, one-⊗, ⊕_left_comm, ⊗_left_comm, dist-⊗, neg_cancel, cancel_neg, ⊗-zero, zero-⊗, neg_neg, neg_zero, neg_sum, neg-⊗, ⊗-neg}
+use Rattle.algebra.proofs.Laws.{zero_⊕, one_⊗, ⊕_left_comm, ⊗_left_comm, dist_⊗, neg_cancel, cancel_neg, ⊗_zero, zero_⊗, neg_neg, neg_zero, neg_sum, neg_⊗, ⊗_neg}
 
 infixl 65 ◌:+◌
 infixl 65 ◌:-◌
@@ -97,7 +97,7 @@ same_mono→eq (x ∷ m) (y ∷ n) t = ap₂ {C = Mono} ◌∷◌ (eqb→eq x y 
 module _ {K : Type 0} (R : Ring K) (ρ : ℕ → K) where
   infixl 65 ◌⊕◌
   infixl 70 ◌⊗◌
-  open R use {𝟘, 𝟙, ◌⊕◌, ◌⊗◌, neg, ⊕-assoc, ⊕-comm, ⊕-zero, ⊕-neg, ⊗-assoc, ⊗-comm, ⊗-one, ⊗-dist}
+  open R use {𝟘, 𝟙, ◌⊕◌, ◌⊗◌, neg, ⊕_assoc, ⊕_comm, ⊕_zero, ⊕_neg, ⊗_assoc, ⊗_comm, ⊗_one, ⊗_dist}
 
   -- the value of an expression, where ρ gives the values of the unknowns
   abbrev pub eval : Ex → K
@@ -133,8 +133,8 @@ module _ {K : Type 0} (R : Ring K) (ρ : ℕ → K) where
       refl
 
   times_ok : (m n : Mono) → eval_mono (times m n) ≡ eval_mono m ⊗ eval_mono n
-  times_ok [] n = sym (one-⊗ R (eval_mono n))
-  times_ok (x ∷ m) n = put_ok x (times m n) ∙ ap (λ (k : K). ρ x ⊗ k) (times_ok m n) ∙ sym (⊗-assoc (ρ x) (eval_mono m) (eval_mono n))
+  times_ok [] n = sym (one_⊗ R (eval_mono n))
+  times_ok (x ∷ m) n = put_ok x (times m n) ∙ ap (λ (k : K). ρ x ⊗ k) (times_ok m n) ∙ sym (⊗_assoc (ρ x) (eval_mono m) (eval_mono n))
 
   -- the test b is known to be what it is in each way
   choice_sum : (b : Bool) (p q : Sum) (z : K) → (T b → eval_sum p ≡ z) → eval_sum q ≡ z → eval_sum (cond b p q) ≡ z
@@ -156,8 +156,8 @@ module _ {K : Type 0} (R : Ring K) (ρ : ℕ → K) where
       (ap (λ (k : K). sgn t (eval_mono n) ⊕ k) (add1_ok s m p) ∙ ⊕_left_comm R (sgn t (eval_mono n)) (sgn s (eval_mono m)) (eval_sum p)))
 
   add_sums_ok : (p q : Sum) → eval_sum (add_sums p q) ≡ eval_sum p ⊕ eval_sum q
-  add_sums_ok end q = sym (zero-⊕ R (eval_sum q))
-  add_sums_ok (term s m p) q = add1_ok s m (add_sums p q) ∙ ap (λ (k : K). sgn s (eval_mono m) ⊕ k) (add_sums_ok p q) ∙ sym (⊕-assoc (sgn s (eval_mono m)) (eval_sum p) (eval_sum q))
+  add_sums_ok end q = sym (zero_⊕ R (eval_sum q))
+  add_sums_ok (term s m p) q = add1_ok s m (add_sums p q) ∙ ap (λ (k : K). sgn s (eval_mono m) ⊕ k) (add_sums_ok p q) ∙ sym (⊕_assoc (sgn s (eval_mono m)) (eval_sum p) (eval_sum q))
 
   sgn_not : (s : Bool) (x : K) → sgn (not s) x ≡ neg (sgn s x)
   sgn_not true x = refl
@@ -169,27 +169,27 @@ module _ {K : Type 0} (R : Ring K) (ρ : ℕ → K) where
 
   sgn_mul : (s t : Bool) (x y : K) → sgn (beq s t) (x ⊗ y) ≡ sgn s x ⊗ sgn t y
   sgn_mul true true x y = refl
-  sgn_mul true false x y = sym (⊗-neg R x y)
-  sgn_mul false true x y = sym (neg-⊗ R x y)
-  sgn_mul false false x y = sym (neg-⊗ R x (neg y) ∙ ap neg (⊗-neg R x y) ∙ neg_neg R (x ⊗ y))
+  sgn_mul true false x y = sym (⊗_neg R x y)
+  sgn_mul false true x y = sym (neg_⊗ R x y)
+  sgn_mul false false x y = sym (neg_⊗ R x (neg y) ∙ ap neg (⊗_neg R x y) ∙ neg_neg R (x ⊗ y))
 
   mul1_ok : (s : Bool) (m : Mono) (p q : Sum) → eval_sum (mul1 s m p q) ≡ sgn s (eval_mono m) ⊗ eval_sum p ⊕ eval_sum q
-  mul1_ok s m end q = sym (ap (λ (k : K). k ⊕ eval_sum q) (⊗-zero R (sgn s (eval_mono m))) ∙ zero-⊕ R (eval_sum q))
+  mul1_ok s m end q = sym (ap (λ (k : K). k ⊕ eval_sum q) (⊗_zero R (sgn s (eval_mono m))) ∙ zero_⊕ R (eval_sum q))
   mul1_ok s m (term t n p) q =
       add1_ok (beq s t) (times m n) (mul1 s m p q)
       ∙ ap₂ ◌⊕◌ (ap (sgn (beq s t)) (times_ok m n) ∙ sgn_mul s t (eval_mono m) (eval_mono n)) (mul1_ok s m p q)
-      ∙ sym (⊕-assoc _ _ _)
-      ∙ ap (λ (k : K). k ⊕ eval_sum q) (sym (⊗-dist (sgn s (eval_mono m)) (sgn t (eval_mono n)) (eval_sum p)))
+      ∙ sym (⊕_assoc _ _ _)
+      ∙ ap (λ (k : K). k ⊕ eval_sum q) (sym (⊗_dist (sgn s (eval_mono m)) (sgn t (eval_mono n)) (eval_sum p)))
 
   mul_sums_ok : (p q : Sum) → eval_sum (mul_sums p q) ≡ eval_sum p ⊗ eval_sum q
-  mul_sums_ok end q = sym (zero-⊗ R (eval_sum q))
+  mul_sums_ok end q = sym (zero_⊗ R (eval_sum q))
   mul_sums_ok (term s m p) q =
-      mul1_ok s m q (mul_sums p q) ∙ ap (λ (k : K). sgn s (eval_mono m) ⊗ eval_sum q ⊕ k) (mul_sums_ok p q) ∙ sym (dist-⊗ R (sgn s (eval_mono m)) (eval_sum p) (eval_sum q))
+      mul1_ok s m q (mul_sums p q) ∙ ap (λ (k : K). sgn s (eval_mono m) ⊗ eval_sum q ⊕ k) (mul_sums_ok p q) ∙ sym (dist_⊗ R (sgn s (eval_mono m)) (eval_sum p) (eval_sum q))
 
   normal_ok : (e : Ex) → eval_sum (normal e) ≡ eval e
-  normal_ok (var x) = ⊕-zero (ρ x ⊗ 𝟙) ∙ ⊗-one (ρ x)
+  normal_ok (var x) = ⊕_zero (ρ x ⊗ 𝟙) ∙ ⊗_one (ρ x)
   normal_ok :0 = refl
-  normal_ok :1 = ⊕-zero 𝟙
+  normal_ok :1 = ⊕_zero 𝟙
   normal_ok (a :+ b) = add_sums_ok (normal a) (normal b) ∙ ap₂ ◌⊕◌ (normal_ok a) (normal_ok b)
   normal_ok (a :* b) = mul_sums_ok (normal a) (normal b) ∙ ap₂ ◌⊗◌ (normal_ok a) (normal_ok b)
   normal_ok (:neg a) = opposite_sum_ok (normal a) ∙ ap neg (normal_ok a)

@@ -3,7 +3,7 @@
 use Rattle.std.proofs.Common.{◌≡◌, ℕ, zero, suc, ◌+◌, ◌<◌, ◌≤◌, sym, ap, ◌∙◌, ap₂, not-suc-le-zero, suc-add, zero-add, arith}
 use mathlib.Core.Path.{fun_ext}
 use Rattle.algebra.specs.Ring.{Scalars}
-use Rattle.algebra.proofs.Laws.{add_zero, zero-⊕, mul_assoc, one-⊗, zero-⊗, ⊗-zero, neg_zero}
+use Rattle.algebra.proofs.Laws.{add_zero, zero_⊕, mul_assoc, one_⊗, zero_⊗, ⊗_zero, neg_zero}
 use Rattle.algebra.proofs.Seq.{Seqs, tail, zero_at, one_at_suc, sum_at}
 use Rattle.algebra.proofs.Bounds.{Below, cons, cons_mul}
 use Rattle.algebra.proofs.Poly.{Poly, Polys, poly, poly_path, poly_coef, poly_seq, size, low, size_le, size_ge, zero_coef, one_coef_zero, one_coef_suc, sum_coef, neg_coef, prod_seq, prod_coef}
@@ -47,7 +47,7 @@ module _ {K : Type 0} (S : Scalars K) where
   pub const_mul_coef : (c : K) (f : Poly S) (i : ℕ) → (const c ⊗ f).coef i ≡ S.ring.◌⊗◌ c (f.coef i)
   unfolding const
   const_mul_coef c f i =
-      prod_coef S (const c) f i ∙ rw (poly_seq S, cons_mul S.ring c (Seqs S.ring).𝟘 f.coef, zero-⊗ (Seqs S.ring) f.coef, sum_at S.ring) (go i)
+      prod_coef S (const c) f i ∙ rw (poly_seq S, cons_mul S.ring c (Seqs S.ring).𝟘 f.coef, zero_⊗ (Seqs S.ring) f.coef, sum_at S.ring) (go i)
     where
       go : (j : ℕ) → S.ring.◌⊕◌ (S.ring.◌⊗◌ c (f.coef j)) (cons S.ring S.ring.𝟘 (Seqs S.ring).𝟘 j) ≡ S.ring.◌⊗◌ c (f.coef j)
       go zero = add_zero S.ring _
@@ -59,7 +59,7 @@ module _ {K : Type 0} (S : Scalars K) where
   X_seq f =
       prod_seq S X f ∙ ap (λ (x : ℕ → K). (Seqs S.ring).◌⊗◌ x f.coef) (poly_seq S _ _ _)
       ∙ cons_mul S.ring S.ring.𝟘 (Seqs S.ring).𝟙 f.coef
-      ∙ fun_ext (λ i. sum_at S.ring _ _ i ∙ simp (zero-⊗, zero-⊕, one-⊗))
+      ∙ fun_ext (λ i. sum_at S.ring _ _ i ∙ simp (zero_⊗, zero_⊕, one_⊗))
 
   pub X_coef_zero : (f : Poly S) → (X ⊗ f).coef 0 ≡ S.ring.𝟘
   X_coef_zero f = rw (X_seq f)
@@ -84,7 +84,7 @@ module _ {K : Type 0} (S : Scalars K) where
     where
       go : (i : ℕ) → f.coef i ≡ (const (f.coef 0) ⊕ X ⊗ rest f).coef i
       go zero = sym (sum_coef S _ _ 0 ∙ ap₂ S.ring.◌⊕◌ (const_coef_zero _) (X_coef_zero _) ∙ add_zero S.ring _)
-      go (suc i) = sym (sum_coef S _ _ (suc i) ∙ ap₂ S.ring.◌⊕◌ (const_coef_suc _ i) (X_coef_suc _ i ∙ rest_coef f i) ∙ zero-⊕ S.ring _)
+      go (suc i) = sym (sum_coef S _ _ (suc i) ∙ ap₂ S.ring.◌⊕◌ (const_coef_suc _ i) (X_coef_suc _ i ∙ rest_coef f i) ∙ zero_⊕ S.ring _)
 
   -- constants add and multiply as scalars do
   pub const_zero : const S.ring.𝟘 ≡ 𝟘
@@ -120,7 +120,7 @@ module _ {K : Type 0} (S : Scalars K) where
     where
       go : (i : ℕ) → (const (S.ring.◌⊗◌ a b)).coef i ≡ (const a ⊗ const b).coef i
       go zero = simp (const_mul_coef, const_coef_zero)
-      go (suc i) = simp (const_mul_coef, const_coef_suc, ⊗-zero)
+      go (suc i) = simp (const_mul_coef, const_coef_suc, ⊗_zero)
 
   pub const_pow : (a : K) (n : ℕ) → const (pow S.ring a n) ≡ pow (Polys S) (const a) n
   const_pow a zero = ap const (pow_zero S.ring a) ∙ const_one ∙ sym (pow_zero (Polys S) (const a))
@@ -143,7 +143,7 @@ module _ {K : Type 0} (S : Scalars K) where
 
   -- a power of X times a polynomial: the coefficients move up
   pub X_pow_above : (n : ℕ) (f : Poly S) (i : ℕ) → (pow (Polys S) X n ⊗ f).coef (n + i) ≡ f.coef i
-  X_pow_above zero f i = rw (pow_zero (Polys S) X, one-⊗ (Polys S) f, zero-add i)
+  X_pow_above zero f i = rw (pow_zero (Polys S) X, one_⊗ (Polys S) f, zero-add i)
   X_pow_above (suc n) f i = rw (pow_suc (Polys S) X n, mul_assoc (Polys S) X (pow (Polys S) X n) f, suc-add n i, X_coef_suc (pow (Polys S) X n ⊗ f) (n + i)) (X_pow_above n f i)
 
   -- and zeros stand below

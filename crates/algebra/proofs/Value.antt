@@ -4,7 +4,7 @@ use Rattle.std.proofs.Common.{◌≡◌, ℕ, zero, suc, ◌+◌, ◌≤◌, max
 use mathlib.Core.Path.{fun_ext}
 use native.Mathlib.Nat.{le-max_left, le-max_right}
 use Rattle.algebra.specs.Ring.{Ring, Scalars}
-use Rattle.algebra.proofs.Laws.{add_zero, zero-⊕, zero-⊗, ⊗-zero, mul_add, mul_one, neg_unique, add_neg, ac}
+use Rattle.algebra.proofs.Laws.{add_zero, zero_⊕, zero_⊗, ⊗_zero, mul_add, mul_one, neg_unique, add_neg, ac}
 use Rattle.algebra.proofs.Solver.{:0, ◌:+◌, ◌:*◌, ring, A, B, C, D}
 use Rattle.algebra.proofs.Seq.{Seqs, tail, zero_at, sum_at}
 use Rattle.algebra.proofs.Bounds.{Below, cons, scale, cons_mul, cons_tail, below_nil, below_mul}
@@ -44,12 +44,12 @@ module _ {K T : Type 0} {R : Ring K} {S : Ring T} (hom : Hom R S) (s : T) where
   ev_sum (suc n) f g = simp (ev_suc, ev_sum n (tail f) (tail g), hom.sum_to, mul_add, ac)
 
   ev_scale : (n : ℕ) (c : K) (f : ℕ → K) → ev n (scale R c f) ≡ hom.to c ⊗ ev n f
-  ev_scale zero c f = simp (ev_zero, ⊗-zero)
+  ev_scale zero c f = simp (ev_zero, ⊗_zero)
   ev_scale (suc n) c f = simp (ev_suc, ev_scale n c (tail f), hom.prod_to, mul_add, ac)
 
   ev_nil : (n : ℕ) (f : ℕ → K) → Below R 0 f → ev n f ≡ 𝟘
   ev_nil zero f b = ev_zero f
-  ev_nil (suc n) f b = simp (ev_suc, b 0 zero-le, hom.zero_to, ev_nil n (tail f) (λ i h. b (suc i) zero-le), ⊗-zero, add_zero)
+  ev_nil (suc n) f b = simp (ev_suc, b 0 zero-le, hom.zero_to, ev_nil n (tail f) (λ i h. b (suc i) zero-le), ⊗_zero, add_zero)
 
   -- any bound gives the same value
   pub ev_more : (m n : ℕ) (f : ℕ → K) → Below R m f → m ≤ n → ev n f ≡ ev m f
@@ -62,7 +62,7 @@ module _ {K T : Type 0} {R : Ring K} {S : Ring T} (hom : Hom R S) (s : T) where
 
   pub ev_mul : (m n : ℕ) (f g : ℕ → K) → Below R m f → Below R n g → ev (m + n) ((Seqs R).◌⊗◌ f g) ≡ ev m f ⊗ ev n g
   ev_mul zero n f g p q =
-      rw (below_nil R f p, zero-⊗ (Seqs R) g) (ev_nil (0 + n) (Seqs R).𝟘 (λ i h. zero_at R i) ∙ simp (ev_zero, zero-⊗))
+      rw (below_nil R f p, zero_⊗ (Seqs R) g) (ev_nil (0 + n) (Seqs R).𝟘 (λ i h. zero_at R i) ∙ simp (ev_zero, zero_⊗))
   ev_mul (suc m) n f g p q =
       rw (
         mul_split f g,
@@ -111,7 +111,7 @@ module _ {K T : Type 0} (S : Scalars K) {R : Ring T} (hom : Hom S.ring R) (s : T
   pub value_const : (c : K) → value (const S c) ≡ hom.to c
   value_const c =
       value_by (const S c) 1 (const_size S c) ∙ ev_suc hom s 0 (const S c).coef
-      ∙ ap₂ (λ (x : K) (y : T). hom.to x ⊕ s ⊗ y) (const_coef_zero S c) (ev_zero hom s _) ∙ ap (λ (x : T). hom.to c ⊕ x) (⊗-zero R s) ∙ add_zero R (hom.to c)
+      ∙ ap₂ (λ (x : K) (y : T). hom.to x ⊕ s ⊗ y) (const_coef_zero S c) (ev_zero hom s _) ∙ ap (λ (x : T). hom.to c ⊕ x) (⊗_zero R s) ∙ add_zero R (hom.to c)
 
   pub value_zero : value 0ₚ ≡ 𝟘
   value_zero = ap value (sym (const_zero S)) ∙ value_const S.ring.𝟘 ∙ hom.zero_to
@@ -125,7 +125,7 @@ module _ {K T : Type 0} (S : Scalars K) {R : Ring T} (hom : Hom S.ring R) (s : T
       ∙ value_by (X S *ₚ 1ₚ) (suc (size 1ₚ)) (size_le (X S *ₚ 1ₚ) _ above)
       ∙ ev_suc hom s (size 1ₚ) _
       ∙ ap₂ (λ (x : T) (y : T). x ⊕ s ⊗ y) (ap hom.to (X_coef_zero S 1ₚ) ∙ hom.zero_to) (ap (ev hom s (size 1ₚ)) (fun_ext (X_coef_suc S 1ₚ)) ∙ sym (value_by 1ₚ (size 1ₚ) (le_refl _)) ∙ value_one)
-      ∙ zero-⊕ R _ ∙ mul_one R s
+      ∙ zero_⊕ R _ ∙ mul_one R s
     where
       above : (i : ℕ) → suc (size 1ₚ) ≤ i → (X S *ₚ 1ₚ).coef i ≡ S.ring.𝟘
       above zero h = absurd (not-suc-le-zero h)

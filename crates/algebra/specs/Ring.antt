@@ -11,14 +11,14 @@ pub record Ring (K : Type 0) : Type 0 where
   pub ◌⊗◌ : K → K → K
   pub neg : K → K
   pub is_set : IsSet K
-  pub ⊕-assoc : (a b c : K) → (a ⊕ b) ⊕ c ≡ a ⊕ (b ⊕ c)
-  pub ⊕-comm : (a b : K) → a ⊕ b ≡ b ⊕ a
-  pub ⊕-zero : (a : K) → a ⊕ 𝟘 ≡ a
-  pub ⊕-neg : (a : K) → a ⊕ neg a ≡ 𝟘
-  pub ⊗-assoc : (a b c : K) → (a ⊗ b) ⊗ c ≡ a ⊗ (b ⊗ c)
-  pub ⊗-comm : (a b : K) → a ⊗ b ≡ b ⊗ a
-  pub ⊗-one : (a : K) → a ⊗ 𝟙 ≡ a
-  pub ⊗-dist : (a b c : K) → a ⊗ (b ⊕ c) ≡ a ⊗ b ⊕ a ⊗ c
+  pub ⊕_assoc : (a b c : K) → (a ⊕ b) ⊕ c ≡ a ⊕ (b ⊕ c)
+  pub ⊕_comm : (a b : K) → a ⊕ b ≡ b ⊕ a
+  pub ⊕_zero : (a : K) → a ⊕ 𝟘 ≡ a
+  pub ⊕_neg : (a : K) → a ⊕ neg a ≡ 𝟘
+  pub ⊗_assoc : (a b c : K) → (a ⊗ b) ⊗ c ≡ a ⊗ (b ⊗ c)
+  pub ⊗_comm : (a b : K) → a ⊗ b ≡ b ⊗ a
+  pub ⊗_one : (a : K) → a ⊗ 𝟙 ≡ a
+  pub ⊗_dist : (a b c : K) → a ⊗ (b ⊕ c) ≡ a ⊗ b ⊕ a ⊗ c
 
 -- What polynomials take their coefficients from: a ring in which equality is decided.
 pub record Scalars (K : Type 0) : Type 0 where

@@ -25,8 +25,8 @@ abbrev pub Extends : FieldMeaning → ℕ → ℕ → Option FieldFault → Type
 Extends F k n = Ranged (quotient_refusal F.ring k n) (Judged F (modulus F.ring k n))
 
 -- An extension that is well made: its base is, with the field laws, and the request for it is not refused.
-pub record ExtensionMade (base-made : Type 0) (F : FieldMeaning) (k n : ℕ) : Type 0 where
-  pub base : base-made
+pub record ExtensionMade (base_made : Type 0) (F : FieldMeaning) (k n : ℕ) : Type 0 where
+  pub base : base_made
   pub laws : FieldLaws F
   pub taken : Extends F k n None
 

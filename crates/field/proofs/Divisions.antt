@@ -5,7 +5,7 @@ use Rattle.std.proofs.Common.{◌≡◌, ℕ, zero, suc, ◌-◌, ◌<◌, ◌�
 use native.Mathlib.Decide.{dec_lt}
 use lib.ListN.{get_or-eq_default}
 use Rattle.algebra.specs.Ring.{Ring, Field}
-use Rattle.algebra.proofs.Laws.{add_zero, add_comm, ⊗-zero, mul_assoc, mul_comm, one-⊗, cancel}
+use Rattle.algebra.proofs.Laws.{add_zero, add_comm, ⊗_zero, mul_assoc, mul_comm, one_⊗, cancel}
 use Rattle.algebra.proofs.Solver.{:0, :1, ◌:+◌, ◌:*◌, :neg, ◌:-◌, ring, A, B, C, D}
 use Rattle.algebra.proofs.Poly.{Polys, size, low, zero_size}
 use Rattle.algebra.proofs.Size.{Divided, divided, nonzero_size, poly_cancel}
@@ -137,7 +137,7 @@ module _ (m : RingMeaning) (L : RingLaws m) where
       zero_dividend : g ≡ zero_polynomial → r ≡ zero_polynomial → f ≡ zero_polynomial
       zero_dividend a b = (is_zero m L f cf).0
           (whole ∙ ap₂ (λ (x y : P m L). R.◌⊕◌ (R.◌⊗◌ (poly q) x) y) (ap poly a ∙ poly_zero m L) (ap poly b ∙ poly_zero m L)
-          ∙ add_zero R _ ∙ ⊗-zero R (poly q))
+          ∙ add_zero R _ ∙ ⊗_zero R (poly q))
 
   divides_zero : (d : List ℕ) → Canonical m d → Divides m d zero_polynomial
   divides_zero d c = divides_from m L d zero_polynomial c (zero_canonical m L) (subst (DividesPoly R (poly d)) (sym (poly_zero m L)) (dvd_zero R (poly d)))
@@ -157,7 +157,7 @@ module _ (m : RingMeaning) (L : RingLaws m) where
       back =
           ap (R.◌⊗◌ (const (CodeScalars m L) (scalar m L v))) e ∙ sym (mul_assoc R _ _ (poly f))
           ∙ ap (λ (x : P m L). R.◌⊗◌ x (poly f)) (sym (const_mul (CodeScalars m L) _ _) ∙ ap (const (CodeScalars m L)) (sym (scalar_product m L v u lv lu) ∙ ap (scalar m L) i ∙ scalar_one m L) ∙ const_one (CodeScalars m L))
-          ∙ one-⊗ R (poly f)
+          ∙ one_⊗ R (poly f)
 
   -- a row that is scaled to be monic
   pub common_row : (old new : List ℕ) (u : ℕ) → Coded m old → m.product (leading (or_zero (trimmed old))) u ≡ one m →

@@ -3,7 +3,7 @@
 -- cofactor_monic, product_degree.
 use Rattle.std.proofs.Common.{◌≡◌, ℕ, zero, suc, ◌+◌, ◌<◌, ◌≤◌, List, sym, refl, ap, ◌∙◌, subst, ap₂, arith}
 use Rattle.algebra.specs.Ring.{Ring, Scalars, Field}
-use Rattle.algebra.proofs.Laws.{mul_comm, one-⊗}
+use Rattle.algebra.proofs.Laws.{mul_comm, one_⊗}
 use Rattle.algebra.proofs.Divides.{Divides as DividesPoly}
 use Rattle.algebra.proofs.Poly.{Poly, Polys, size}
 use Rattle.algebra.proofs.Size.{dvd_size, factors, top_product}
@@ -32,7 +32,7 @@ cofactor_monic {K = K} {S = S} F f g h mf mg e = go (size h) refl
 
         leads : h.coef n ≡ S.ring.𝟙
         leads =
-            sym (one-⊗ S.ring (h.coef n)) ∙ ap (λ (x : K). S.ring.◌⊗◌ x (h.coef n)) (sym mg.leads)
+            sym (one_⊗ S.ring (h.coef n)) ∙ ap (λ (x : K). S.ring.◌⊗◌ x (h.coef n)) (sym mg.leads)
             ∙ sym (top_product F g h mg.deg n mg.sized z) ∙ ap (λ (x : Poly S). x.coef (mg.deg + n)) (sym e) ∙ ap f.coef at ∙ mf.leads
 
 module _ (m : RingMeaning) (L : RingLaws m) where

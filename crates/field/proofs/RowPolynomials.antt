@@ -7,7 +7,7 @@ use native.Mathlib.Decide.{dec_le, dec_lt}
 use lib.ListN.{get_or-eq_default}
 use Rattle.algebra.specs.Ring.{Ring}
 use Rattle.algebra.specs.Powers.{pow}
-use Rattle.algebra.proofs.Laws.{add_zero, mul_assoc, mul_one, ⊗-neg}
+use Rattle.algebra.proofs.Laws.{add_zero, mul_assoc, mul_one, ⊗_neg}
 use Rattle.algebra.proofs.Poly.{Polys, poly_path, sum_coef}
 use Rattle.algebra.proofs.Terms.{const, const_mul_coef, const_neg, X, X_pow_above, X_pow_below}
 use Rattle.field.specs.Ring.{RingMeaning, RingLaws, one}
@@ -76,7 +76,7 @@ module _ (m : RingMeaning) (L : RingLaws m) where
   monomial_opposite t p h =
       ap (λ (c : Code m L). R.◌⊗◌ (pow R (X (CodeScalars m L)) p) (const (CodeScalars m L) c)) (scalar_opposite t h)
       ∙ ap (R.◌⊗◌ (pow R (X (CodeScalars m L)) p)) (const_neg (CodeScalars m L) (scalar m L t))
-      ∙ ⊗-neg R _ _
+      ∙ ⊗_neg R _ _
 
   -- the coefficients of a multiple of g by t X^p
   multiple_above : (t p : ℕ) (g : List ℕ) (i : ℕ) → (R.◌⊗◌ (monomial t p) (poly_of m L g)).coef (p + i) ≡ (CodeRing m L).◌⊗◌ (scalar m L t) (scalar m L (get_or g i 0))

@@ -5,7 +5,7 @@ use native.Mathlib.Decide.{dec_lt}
 use lib.ListN.{length-replicate, get_or-replicate, get_or-eq_default, get_or-append}
 use lib.Seq.{drop-length}
 use Rattle.algebra.specs.Ring.{Scalars}
-use Rattle.algebra.proofs.Laws.{zero-⊗, add_neg}
+use Rattle.algebra.proofs.Laws.{zero_⊗, add_neg}
 use Rattle.algebra.proofs.Solver.{◌:+◌, ◌:*◌, ◌:-◌, ring, A, B, C, D, E, F}
 use Rattle.algebra.proofs.Poly.{Polys, zero_coef, sum_coef}
 use Rattle.algebra.proofs.Terms.{const, X, const_mul_coef, X_coef_zero, X_coef_suc}
@@ -67,7 +67,7 @@ module _ (r : RingMeaning) (L : RingLaws r) (lower : List ℕ) (some : 1 ≤ len
     long = ap length e ∙ length-replicate {A = ℕ} k 0;
     same = (
       𝟘,
-      ap₂ (λ (x y : P). x ⊗ poly_of r L right ⊕ neg y) (nothing [] (λ i. refl)) (nothing row clear) ∙ ap (λ (x : P). x ⊕ neg 𝟘) (zero-⊗ (Polys S) _) ∙ add_neg (Polys S) 𝟘 ∙ sym (zero-⊗ (Polys S) M),
+      ap₂ (λ (x y : P). x ⊗ poly_of r L right ⊕ neg y) (nothing [] (λ i. refl)) (nothing row clear) ∙ ap (λ (x : P). x ⊕ neg 𝟘) (zero_⊗ (Polys S) _) ∙ add_neg (Polys S) 𝟘 ∙ sym (zero_⊗ (Polys S) M),
     );
   }
     where

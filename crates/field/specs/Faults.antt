@@ -46,8 +46,8 @@ pub record PrimeMade (n : ℕ) : Type 0 where
   pub laws : FieldLaws (prime_field n)
 
 -- A quotient that is well made: its base is, and k and n are not refused.
-pub record QuotientMade (base-made : Type 0) (r : RingMeaning) (k n : ℕ) : Type 0 where
-  pub base : base-made
+pub record QuotientMade (base_made : Type 0) (r : RingMeaning) (k n : ℕ) : Type 0 where
+  pub base : base_made
   pub in_range : quotient_refusal r k n ≡ None
 
 -- the product of codes of every quotient that is not refused, in the subject's words

@@ -5,7 +5,7 @@ use Rattle.std.proofs.Common.{◌∙◌, mod-lt, mod-eq_of_lt, mul-one, add-one,
 use Rattle.std.proofs.Math.Nat.{mod_self, zero-mod, mod-add-mod, add-mod, pow-zero, pow-succ', div-add-mod}
 use Rattle.std.proofs.Math.Decide.{dec_le, ℕ_discrete}
 use borrow.Author.Tests.{leb-true, eqb-false, clash}
-use Rattle.algebra.proofs.Laws.{mul_assoc, mul_one as ring_mul_one, neg_unique, neg-⊗, ⊗-neg}
+use Rattle.algebra.proofs.Laws.{mul_assoc, mul_one as ring_mul_one, neg_unique, neg_⊗, ⊗_neg}
 use Rattle.field.specs.Checks.{seek}
 use Rattle.field.specs.Ring.{RingMeaning, RingLaws, total, multiple}
 use Rattle.field.specs.Field.{FieldLaws, Characteristic}
@@ -89,7 +89,7 @@ module _ (p : ℕ) (N : NoDivisors p) (high : p ≤ 256) where
   -- From p = a d + r and an inverse u of r: an inverse of a is -(d u). The remainder r is not 0, and it is smaller than a.
   step : (a d r : ℕ) → p ≡ a * d + r → (u : K) → residue r ⊗ u ≡ 𝟙 → residue a ⊗ neg (residue d ⊗ u) ≡ 𝟙
   step a d r e u w =
-      ⊗-neg (CodeRing m L) (residue a) (residue d ⊗ u) ∙ ap neg (sym (mul_assoc (CodeRing m L) (residue a) (residue d) u)) ∙ sym (neg-⊗ (CodeRing m L) (residue a ⊗ residue d) u)
+      ⊗_neg (CodeRing m L) (residue a) (residue d ⊗ u) ∙ ap neg (sym (mul_assoc (CodeRing m L) (residue a) (residue d) u)) ∙ sym (neg_⊗ (CodeRing m L) (residue a ⊗ residue d) u)
       ∙ ap (λ (x : K). x ⊗ u) (sym (neg_unique (CodeRing m L) (residue a ⊗ residue d) (residue r) zero)) ∙ w
     where
       zero : residue a ⊗ residue d ⊕ residue r ≡ 𝟘

@@ -6,7 +6,7 @@ use Rattle.std.proofs.Math.Decide.{dec_lt, ℕ_discrete}
 use Rattle.std.proofs.lemmas.List.{length-map, get_or-replicate}
 use Rattle.std.proofs.Math.ListN.{length-replicate, get_or-eq_default, get_or-append}
 use Rattle.algebra.specs.Ring.{Scalars}
-use Rattle.algebra.proofs.Laws.{one-⊗, zero-⊗, add_neg}
+use Rattle.algebra.proofs.Laws.{one_⊗, zero_⊗, add_neg}
 use Rattle.algebra.proofs.Solver.{◌:+◌, ◌:*◌, ◌:-◌, ring, A, B, C, D, E}
 use Rattle.algebra.proofs.Poly.{Polys, size, sum_coef, neg_coef}
 use Rattle.algebra.proofs.Terms.{const, X, const_mul_coef}
@@ -124,7 +124,7 @@ module _ (r : RingMeaning) (L : RingLaws r) where
       deg = k;
       bound = subst (λ (n : ℕ). size modulus_poly ≤ n) modulus_length (poly_of_short r L M);
       inv = S.ring.𝟙;
-      unit = one-⊗ S.ring _ ∙ code_path r L (modulus_coef k ∙ modulus_top ∙ sym (unit_code r L));
+      unit = one_⊗ S.ring _ ∙ code_path r L (modulus_coef k ∙ modulus_top ∙ sym (unit_code r L));
     }
 
     pub leads_degree : leads.deg ≡ k
@@ -193,7 +193,7 @@ module _ (r : RingMeaning) (L : RingLaws r) where
     pub reduced_same : (f : List ℕ) → Coded r f → Divides (Polys S) modulus_poly (poly_of r L f ⊕ neg (poly_of r L (reduced r k n f)))
     unfolding reduced
     reduced_same [] hf =
-        (𝟘, ap (λ (x : P). x ⊕ neg (poly_of r L (replicate k 0))) (poly_of_same r L [] (replicate k 0) (λ i. sym (zeros_at i))) ∙ add_neg (Polys S) _ ∙ sym (zero-⊗ (Polys S) modulus_poly))
+        (𝟘, ap (λ (x : P). x ⊕ neg (poly_of r L (replicate k 0))) (poly_of_same r L [] (replicate k 0) (λ i. sym (zeros_at i))) ∙ add_neg (Polys S) _ ∙ sym (zero_⊗ (Polys S) modulus_poly))
     reduced_same (a ∷ f) hf = step (reduced_same f (λ i. hf (suc i)))
       where
         g : List ℕ

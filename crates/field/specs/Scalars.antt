@@ -13,7 +13,7 @@ use Rattle.algebra.specs.Powers.{times, pow, Characteristic}
 use Rattle.algebra.specs.Finite.{FiniteField}
 use Rattle.algebra.proofs.Lists.{in_map, in_map_to, map_length, map_distinct}
 use Rattle.algebra.proofs.Powers.{times_zero, times_suc, pow_zero, pow_suc}
-use Rattle.algebra.proofs.Laws.{add_comm, mul_comm, ⊗-zero, neg_zero}
+use Rattle.algebra.proofs.Laws.{add_comm, mul_comm, ⊗_zero, neg_zero}
 use Rattle.algebra.proofs.Combination.{total as sum_of, total_zero, total_last}
 use Rattle.field.specs.Ring.{RingMeaning, RingLaws, one, total, multiple, power}
 use Rattle.field.specs.Field.{FieldMeaning, FieldLaws}
@@ -66,14 +66,14 @@ module _ (m : RingMeaning) (L : RingLaws m) where
     ◌⊗◌ = λ a b. (m.product a.0 b.0, L.product_code a.0 b.0);
     neg = λ a. (m.opposite a.0, L.opposite_code a.0);
     is_set = hedberg (below_dec m.order);
-    ⊕-assoc = λ a b c. below_path m.order (L.sum_assoc a.0 b.0 c.0 a.1 b.1 c.1);
-    ⊕-comm = λ a b. below_path m.order (L.sum_comm a.0 b.0 a.1 b.1);
-    ⊕-zero = λ a. below_path m.order (L.sum_zero a.0 a.1);
-    ⊕-neg = λ a. below_path m.order (L.sum_opposite a.0 a.1);
-    ⊗-assoc = λ a b c. below_path m.order (L.product_assoc a.0 b.0 c.0 a.1 b.1 c.1);
-    ⊗-comm = λ a b. below_path m.order (L.product_comm a.0 b.0 a.1 b.1);
-    ⊗-one = λ a. below_path m.order (L.product_one a.0 a.1);
-    ⊗-dist = λ a b c. below_path m.order (L.distributes a.0 b.0 c.0 a.1 b.1 c.1);
+    ⊕_assoc = λ a b c. below_path m.order (L.sum_assoc a.0 b.0 c.0 a.1 b.1 c.1);
+    ⊕_comm = λ a b. below_path m.order (L.sum_comm a.0 b.0 a.1 b.1);
+    ⊕_zero = λ a. below_path m.order (L.sum_zero a.0 a.1);
+    ⊕_neg = λ a. below_path m.order (L.sum_opposite a.0 a.1);
+    ⊗_assoc = λ a b c. below_path m.order (L.product_assoc a.0 b.0 c.0 a.1 b.1 c.1);
+    ⊗_comm = λ a b. below_path m.order (L.product_comm a.0 b.0 a.1 b.1);
+    ⊗_one = λ a. below_path m.order (L.product_one a.0 a.1);
+    ⊗_dist = λ a b c. below_path m.order (L.distributes a.0 b.0 c.0 a.1 b.1 c.1);
   }
 
   abbrev pub CodeScalars : Scalars Code
@@ -111,7 +111,7 @@ module _ (m : RingMeaning) (L : RingLaws m) where
 
   pub product_zero : (a : ℕ) → a < m.order → m.product a 0 ≡ 0
   unfolding CodeRing
-  product_zero a h = ap (λ (x : Code). x.0) (⊗-zero CodeRing (a, h))
+  product_zero a h = ap (λ (x : Code). x.0) (⊗_zero CodeRing (a, h))
 
   pub zero_product : (a : ℕ) → a < m.order → m.product 0 a ≡ 0
   zero_product a h = L.product_comm 0 a zero_is_code h ∙ product_zero a h

@@ -5,7 +5,7 @@ use Rattle.std.proofs.Common.{◌≡◌, ℕ, ◌+◌, ◌-◌, ◌<◌, ◌≤�
 use native.Mathlib.Decide.{dec_lt, ℕ_discrete}
 use Rattle.std.proofs.lemmas.List.{get_or_past, get_or-set_same, get_or-set_other}
 use Rattle.algebra.specs.Ring.{Ring}
-use Rattle.algebra.proofs.Laws.{zero-⊕, zero-⊗}
+use Rattle.algebra.proofs.Laws.{zero_⊕, zero_⊗}
 use Rattle.algebra.proofs.Solver.{◌:+◌, ◌:*◌, :neg, ring, A, B, C, D}
 use Rattle.algebra.proofs.Poly.{Polys}
 use Rattle.field.specs.Ring.{RingMeaning, RingLaws, one}
@@ -32,7 +32,7 @@ module _ (m : RingMeaning) (L : RingLaws m) where
   dividing_none f g quotient c z = record {
     quotient_codes = λ i. subst (λ (x : ℕ). x < m.order) (sym (zeros i (dec_lt i (length f)))) (zero_is_code m L);
     row_codes = c;
-    adds_up = sym (ap (λ (x : P m L). R.◌⊕◌ (R.◌⊗◌ x (poly_of m L g)) (poly_of m L f)) none ∙ ap (λ (x : P m L). R.◌⊕◌ x (poly_of m L f)) (zero-⊗ R _) ∙ zero-⊕ R _);
+    adds_up = sym (ap (λ (x : P m L). R.◌⊕◌ (R.◌⊗◌ x (poly_of m L g)) (poly_of m L f)) none ∙ ap (λ (x : P m L). R.◌⊕◌ x (poly_of m L f)) (zero_⊗ R _) ∙ zero_⊕ R _);
     row_ends = λ i h. get_or_past f i 0 h;
     quotient_starts = λ i h. zeros i (dec_lt i (length f));
   }

@@ -1,4 +1,4 @@
--- An operand that is not refused is a polynomial of at most `most-codes` codes, and each such polynomial is taken; why any other
+-- An operand that is not refused is a polynomial of at most `most_codes` codes, and each such polynomial is taken; why any other
 -- operand is refused.
 -- Main statements: taken_is_canonical, canonical_is_taken; refused_code, refused_last; zero_refused, divisor_taken; passes, both_none.
 use Rattle.std.proofs.Common.{◌≡◌, ℕ, ◌+◌, ◌<◌, ◌≤◌, Bool, true, false, not, ◌&&◌, ◌||◌, eqb, leb, ◌≢◌, List, length, Some, None, Option, refl, ap, subst, ap₂, inl, inr, arith, eq-eqb, ne_eqb, eqb-true, le-leb, leb-false, leb-true}

@@ -1,5 +1,5 @@
 -- Why a polynomial is not taken or a result not given, in the order of checking.
-use Rattle.std.specs.Prelude.{ℕ, ◌+◌, Bool, not, ◌&&◌, ◌||◌, leb, List, length, Some, None, Option, ◌==◌, nat_le, nat_lt}
+use Rattle.std.specs.Prelude.{ℕ, ◌+◌, Bool, not, ◌&&◌, ◌||◌, List, length, Some, None, Option, ◌==◌, nat_le, nat_lt}
 use Rattle.field.specs.Checks.{unless, between, ◌or_else◌, first_below}
 use Rattle.field.specs.Ring.{RingMeaning}
 use Rattle.field.specs.Polynomial.{coefficient, leading, degree}
@@ -36,9 +36,9 @@ at_index (Some i) = Some (NotCode i)
 
 -- the place of the first code that is none of the ring's
 abbrev pub first_bad : RingMeaning → List ℕ → Option ℕ
-first_bad m f = first_below (length f) (λ i. leb m.order (coefficient f i))
+first_bad m f = first_below (length f) (λ i. nat_le m.order (coefficient f i))
 
--- One operand: 10 unless it has 1 to `most-codes` codes, then 11 at the first that is none of the ring's, then 12 if the last
+-- One operand: 10 unless it has 1 to `most_codes` codes, then 11 at the first that is none of the ring's, then 12 if the last
 -- of several codes is 0.
 abbrev pub operand_refusal : RingMeaning → List ℕ → Option PolyFault
 operand_refusal m f =

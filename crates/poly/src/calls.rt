@@ -69,7 +69,7 @@ pub fn divide<F: Field>(
     remainder: &mut [u16],
 ) -> Result<(usize, usize), PolyFault>
     requires { F.made field.now }
-    ensures result { Division (F.meaning field.now) f.now g.now (record { quotient = quotient.entry.now; remainder = remainder.old }) result (record { quotient = quotient.exit.now; remainder = remainder.new }) }
+    ensures result { Division (F.meaning field.now) f.now g.now (record { quotient = quotient.old; remainder = remainder.old }) result (record { quotient = quotient.new; remainder = remainder.new }) }
     ensures once { OneDivision }
 {
     check(field, f)?;

@@ -118,7 +118,7 @@ pub(crate) fn deliver_both(
 ) -> Result<(usize, usize), PolyFault>
     requires first { 0 < length quotients.now }
     requires second { 0 < length rests.now }
-    ensures { WritesBoth None (λ p q. (p ≡ or_zero (trimmed quotients.now)) × (q ≡ or_zero (trimmed rests.now))) (record { quotient = quotient.entry.now; remainder = remainder.old }) result (record { quotient = quotient.exit.now; remainder = remainder.new }) }
+    ensures { WritesBoth None (λ p q. (p ≡ or_zero (trimmed quotients.now)) × (q ≡ or_zero (trimmed rests.now))) (record { quotient = quotient.old; remainder = remainder.old }) result (record { quotient = quotient.new; remainder = remainder.new }) }
 {
     let n = trimmed_length(quotients);
     let k = trimmed_length(rests);

@@ -4,7 +4,7 @@
 use Rattle.std.proofs.Common.{◌≡◌, ℕ, zero, suc, ◌+◌, ◌<◌, ◌≤◌, [], ◌∷◌, sym, refl, ap, ◌∙◌, ap₂, ⊎_elim, arith}
 use Rattle.std.proofs.lemmas.Bool.{cases_eq}
 use Rattle.algebra.specs.Ring.{Ring}
-use Rattle.algebra.proofs.Laws.{zero-⊗, eq_of_diff}
+use Rattle.algebra.proofs.Laws.{zero_⊗, eq_of_diff}
 use Rattle.algebra.proofs.Solver.{:0, :1, ◌:+◌, ◌:*◌, :neg, ring, A, B}
 use Rattle.algebra.proofs.Echelon.{total_longer, dot, dot_same, dot_less, dot_scale, dot_unit}
 use Rattle.field.specs.Ring.{RingMeaning, RingLaws, one, total}
@@ -111,5 +111,5 @@ module _ (m : RingMeaning) (L : RingLaws m) where
   combined_longer k n c v hc hv z =
       sym (combined_is (k + n) c v hc hv)
       ∙ ap number
-      (total_longer R k n _ (λ j h l. ap (λ (x : Code m L). R.◌⊗◌ x (scalar m L (v (suc j)))) (ap (scalar m L) (z (suc j) (omega arith) (omega arith)) ∙ scalar_zero m L) ∙ zero-⊗ R (scalar m L (v (suc j)))))
+      (total_longer R k n _ (λ j h l. ap (λ (x : Code m L). R.◌⊗◌ x (scalar m L (v (suc j)))) (ap (scalar m L) (z (suc j) (omega arith) (omega arith)) ∙ scalar_zero m L) ∙ zero_⊗ R (scalar m L (v (suc j)))))
       ∙ combined_is n c v (λ j h l. hc j h (omega arith)) (λ j h l. hv j h (omega arith))

@@ -5,7 +5,7 @@ use native.Mathlib.Decide.{dec_lt}
 use Rattle.algebra.specs.Ring.{Ring, Field}
 use Rattle.algebra.specs.Powers.{pow}
 use Rattle.algebra.specs.Finite.{FiniteField}
-use Rattle.algebra.proofs.Laws.{add_neg, ⊗-zero, zero-⊕}
+use Rattle.algebra.proofs.Laws.{add_neg, ⊗_zero, zero_⊕}
 use Rattle.algebra.proofs.Divides.{Divides as DividesPoly, dvd_zero}
 use Rattle.algebra.proofs.Combination.{total_suc, combine, combine_coef}
 use Rattle.algebra.proofs.Echelon.{total_same, total_none}
@@ -99,16 +99,16 @@ module _ (F : FieldMeaning) (L : FieldLaws F) (f : List ℕ) (c : Canonical F.ri
       (combine_coef (suc n) b fixed_row i
       ∙ total_suc R n _
       ∙ ap₂ R.◌⊕◌
-      (ap (R.◌⊗◌ (b 0)) (ap (λ (x : P m L.ring). x.coef i) first_row ∙ zero_coef (CodeScalars m L.ring) i) ∙ ⊗-zero R (b 0))
+      (ap (R.◌⊗◌ (b 0)) (ap (λ (x : P m L.ring). x.coef i) first_row ∙ zero_coef (CodeScalars m L.ring) i) ∙ ⊗_zero R (b 0))
       (total_same R n _ _ (λ j l. ap₂ R.◌⊗◌ (sym (scalar_of m L.ring (b (suc j)))) (row_at (suc j) i (omega arith) (omega arith) k)))
-      ∙ zero-⊕ R _)
+      ∙ zero_⊕ R _)
       ∙ combined_is m L.ring n (λ j. (b j).0) (λ j. cell old d j i) (λ j p q. (b j).1) (λ j p q. row_code m d j i old hold (omega arith) k)
 
   -- beyond the degree of f it is zero
   column_beyond : (n i : ℕ) (b : ℕ → Code m L.ring) → d ≤ i → (combine n b fixed_row).coef i ≡ R.𝟘
   column_beyond n i b h =
       combine_coef n b fixed_row i
-      ∙ total_none R n _ (λ j l. ap (R.◌⊗◌ (b j)) (low (fixed_row j) i (omega (arith, rem_size lead (Ps.◌⊕◌ (pow Ps (X (CodeScalars m L.ring)) (j * m.order)) (Ps.neg (pow Ps (X (CodeScalars m L.ring)) j))), lead_deg))) ∙ ⊗-zero R (b j))
+      ∙ total_none R n _ (λ j l. ap (R.◌⊗◌ (b j)) (low (fixed_row j) i (omega (arith, rem_size lead (Ps.◌⊕◌ (pow Ps (X (CodeScalars m L.ring)) (j * m.order)) (Ps.neg (pow Ps (X (CodeScalars m L.ring)) j))), lead_deg))) ∙ ⊗_zero R (b j))
 
   -- independent rows of the matrix are independent in the algebra
   independent_to : (n : ℕ) → n < d → Independent m d n old → IndependentRows 1 (suc n) fixed_row

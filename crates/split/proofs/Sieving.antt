@@ -6,7 +6,7 @@ use native.Mathlib.Decide.{dec_lt}
 use Rattle.std.proofs.lemmas.Bool.{cond-false, ne_eqb}
 use Rattle.algebra.specs.Ring.{Ring, Scalars}
 use Rattle.algebra.specs.Powers.{pow}
-use Rattle.algebra.proofs.Laws.{add_neg, neg_zero, zero-⊗, ⊗-zero, mul_one, add_zero}
+use Rattle.algebra.proofs.Laws.{add_neg, neg_zero, zero_⊗, ⊗_zero, mul_one, add_zero}
 use Rattle.algebra.proofs.Divides.{Divides as DividesPoly, dvd_refl}
 use Rattle.algebra.proofs.Powers.{pow_zero}
 use Rattle.algebra.proofs.Poly.{Polys, poly_path, size, zero_coef, one_coef_zero, one_coef_suc}
@@ -153,7 +153,7 @@ module _ (F : FieldMeaning) (L : FieldLaws F) (f Q : List ℕ) (cf : Canonical F
 
     equal : (j : ℕ) → j < suc e → DividesPoly Ps (poly f) (Ps.◌⊕◌ (pow Ps (poly Q) j) (Ps.neg (remainder j)))
     unfolding remainder
-    equal zero h = (Ps.𝟘, ap (λ (x : P m L.ring). Ps.◌⊕◌ x (Ps.neg Ps.𝟙)) (pow_zero Ps (poly Q)) ∙ add_neg Ps _ ∙ sym (zero-⊗ Ps (poly f)))
+    equal zero h = (Ps.𝟘, ap (λ (x : P m L.ring). Ps.◌⊕◌ x (Ps.neg Ps.𝟙)) (pow_zero Ps (poly Q)) ∙ add_neg Ps _ ∙ sym (zero_⊗ Ps (poly f)))
     equal (suc j) h = subst (λ (x : P m L.ring). DividesPoly Ps (poly f) (Ps.◌⊕◌ x (Ps.neg (remainder (suc j))))) (poly_power m L.ring Q cQ (suc j))
         (modulo_to m L.ring f cf _ _ (code_at m L.ring _ (power_canonical m L.ring Q (suc j))) (restored_coded (suc j) (omega (arith, dep.high))) (rows (suc j) (omega arith) (omega (arith, dep.high))).1)
 
@@ -177,8 +177,8 @@ module _ (F : FieldMeaning) (L : FieldLaws F) (f Q : List ℕ) (cf : Canonical F
             ∙ ap₂ m.sum (ap (λ (x : Code m L.ring). x.0) (ap (C.◌⊗◌ ((poly t).coef 0)) (one_coef_zero Sc) ∙ mul_one C _) ∙ poly_of_code m L.ring t coded 0 ∙ zeroth) (tail_is 0 some)
             ∙ L.ring.sum_comm _ _ (L.ring.opposite_code _) (total_code m L.ring e _) ∙ L.ring.sum_opposite _ (total_code m L.ring e _) ∙ sym (zero_code m L.ring))
         column (suc i) =
-            ap₂ C.◌⊕◌ (ap (C.◌⊗◌ ((poly t).coef 0)) (one_coef_suc Sc i) ∙ ⊗-zero C _)
-            (elim (dec_lt (suc i) d) [ yes h ↦ code_path m L.ring (tail_is (suc i) h ∙ combined_rows m L.ring e c (λ j. restored old constants d j (suc i)) (λ j. cell old d j (suc i)) (λ j p q. chosen i (coefficient constants j) (cell old d j (suc i))) ∙ none (suc i) h ∙ sym (zero_code m L.ring)) | no h ↦ total_none C e _ (λ j k. ap (C.◌⊗◌ ((poly t).coef (suc j))) (beyond (suc j) (suc i) h) ∙ ⊗-zero C _) ])
+            ap₂ C.◌⊕◌ (ap (C.◌⊗◌ ((poly t).coef 0)) (one_coef_suc Sc i) ∙ ⊗_zero C _)
+            (elim (dec_lt (suc i) d) [ yes h ↦ code_path m L.ring (tail_is (suc i) h ∙ combined_rows m L.ring e c (λ j. restored old constants d j (suc i)) (λ j. cell old d j (suc i)) (λ j p q. chosen i (coefficient constants j) (cell old d j (suc i))) ∙ none (suc i) h ∙ sym (zero_code m L.ring)) | no h ↦ total_none C e _ (λ j k. ap (C.◌⊗◌ ((poly t).coef (suc j))) (beyond (suc j) (suc i) h) ∙ ⊗_zero C _) ])
             ∙ add_zero C C.𝟘
           where
             s : (d - 1 - e) + e ≡ d - 1

@@ -6,7 +6,7 @@ use lib.ListN.{length-map, get_or-eq_default}
 use Rattle.std.proofs.lemmas.List.{get_or-map}
 use Rattle.std.proofs.lemmas.Bool.{leb-true, eq-eqb, eqb-true, eqb-false, cond-true, cond-false}
 use Rattle.algebra.specs.Ring.{Ring}
-use Rattle.algebra.proofs.Laws.{mul_one, mul_assoc, one-⊗, ⊗-zero}
+use Rattle.algebra.proofs.Laws.{mul_one, mul_assoc, one_⊗, ⊗_zero}
 use Rattle.algebra.proofs.Powers.{pow_one, prod_nil, prod_cons}
 use Rattle.algebra.proofs.Solver.{ring, A, B, C, ◌:*◌}
 use Rattle.algebra.proofs.Size.{no_zero_divisors}
@@ -135,7 +135,7 @@ module _ (F : FieldMeaning) (L : FieldLaws F) (Known : List ℕ → Type 0) wher
               outside : length f ≤ i → get_or g i 0 ≡ ((R.◌⊗◌ (unit_of F L b) (value f)).coef i).0
               outside h =
                   get_or-eq_default g 0 (omega (arith, long))
-                  ∙ sym (ap (λ (x : Code m L.ring). x.0) (whole ∙ ap (K.◌⊗◌ (sc b)) (ap sc (get_or-eq_default f 0 h) ∙ scalar_zero m L.ring) ∙ ⊗-zero K (sc b)) ∙ zero_code m L.ring)
+                  ∙ sym (ap (λ (x : Code m L.ring). x.0) (whole ∙ ap (K.◌⊗◌ (sc b)) (ap sc (get_or-eq_default f 0 h) ∙ scalar_zero m L.ring) ∙ ⊗_zero K (sc b)) ∙ zero_code m L.ring)
 
           multiplies : value f ≡ R.◌⊗◌ (unit_of F L (leading f)) (value g)
           multiplies = sym (
@@ -144,7 +144,7 @@ module _ (F : FieldMeaning) (L : FieldLaws F) (Known : List ℕ → Type 0) wher
               sym (const_mul (CodeScalars m L.ring) (sc (leading f)) (sc b))
               ∙ ap (const (CodeScalars m L.ring)) (sym (scalar_product m L.ring (leading f) b code hb) ∙ ap sc u ∙ scalar_one m L.ring)
               ∙ const_one (CodeScalars m L.ring))
-              ∙ one-⊗ R (value f))
+              ∙ one_⊗ R (value f))
 
   -- the parts after an entry
   record Gained (f : List ℕ) (s : SheetMeaning) (qs : List PartMeaning) : Type 0 where

@@ -3,7 +3,7 @@
 use Rattle.std.proofs.Common.{◌≡◌, ℕ, ◌<◌, ◌≤◌, Bool, true, false, cond, List, [], ◌∷◌, ◌++◌, map, sym, refl, ap, ◌∙◌, subst, ap₂, arith}
 use Rattle.algebra.specs.Ring.{Ring}
 use Rattle.algebra.specs.Lists.{In, Permuted}
-use Rattle.algebra.proofs.Laws.{mul_one, one-⊗, mul_assoc}
+use Rattle.algebra.proofs.Laws.{mul_one, one_⊗, mul_assoc}
 use Rattle.algebra.proofs.Lists.{in_map}
 use Rattle.algebra.proofs.Powers.{prod_cons}
 use Rattle.algebra.proofs.Terms.{const, const_one}
@@ -115,7 +115,7 @@ module _ (F : FieldMeaning) (L : FieldLaws F) where
     balance : product_of m (entries es) ≡ product_of m (constant s.unit ∷ standing s.parts ++ taken es)
     balance = poly_of_injective m L.ring _ _ (product_of_canonical m L.ring _) (product_of_canonical m L.ring _) (
         poly_all (entries es) k.entered
-        ∙ sym (ap (λ (x : P m L.ring). R.◌⊗◌ x (product_all F L (entries es))) begins ∙ one-⊗ R _)
+        ∙ sym (ap (λ (x : P m L.ring). R.◌⊗◌ x (product_all F L (entries es))) begins ∙ one_⊗ R _)
         ∙ k.balance ∙ mul_assoc R _ _ _
         ∙ ap (R.◌⊗◌ (unit_of F L s.unit)) (sym (product_each_append F L (standing s.parts) (taken es) ∙ ap (λ (x : P m L.ring). R.◌⊗◌ x (product_all F L (taken es))) (worth_standing R value s.parts)))
         ∙ sym (poly_unit s.unit (standing s.parts ++ taken es) k.sound.good.unit_code.1 left_canonical))

@@ -4,7 +4,7 @@ use Rattle.std.proofs.Common.{◌≡◌, ℕ, zero, suc, ◌+◌, ◌-◌, ◌*�
 use mathlib.Core.List.{map-append}
 use Rattle.algebra.specs.Ring.{Ring}
 use Rattle.algebra.specs.Powers.{pow, prod}
-use Rattle.algebra.proofs.Laws.{mul_assoc, mul_comm, one-⊗, ⊗_left_comm}
+use Rattle.algebra.proofs.Laws.{mul_assoc, mul_comm, one_⊗, ⊗_left_comm}
 use Rattle.algebra.proofs.Powers.{pow_add, prod_nil, prod_append, prod_replicate}
 use Rattle.field.specs.Polynomial.{degree}
 use Rattle.worksheet.specs.Sheet.{PartMeaning, place, is_open, standing, total_degree}
@@ -99,7 +99,7 @@ module _ {K : Type 0} (R : Ring K) (value : List ℕ → K) where
 
   pub worth_append : (ps qs : List PartMeaning) → worth (ps ++ qs) ≡ worth ps ⊗ worth qs
   unfolding worth
-  worth_append [] qs = sym (one-⊗ R _)
+  worth_append [] qs = sym (one_⊗ R _)
   worth_append (p ∷ ps) qs = ap (◌⊗◌ (pow R (value p.codes) p.times)) (worth_append ps qs) ∙ sym (mul_assoc R _ _ _)
 
   map_replicate : (n : ℕ) (f : List ℕ) → map value (replicate n f) ≡ replicate n (value f)

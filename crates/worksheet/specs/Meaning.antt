@@ -27,8 +27,8 @@ pub record RoomMade (r : Room) : Type 0 where
 
 -- A worksheet that is well made: its field is, with the field laws; its parts are good over the field and stand in their arrays; and it
 -- has place for the most parts, so that no call asks for memory.
-pub record SheetMade {T : Type 0} (base-made : Type 0) (F : FieldMeaning) (w : Worksheet T) : Type 0 where
-  pub base : base-made
+pub record SheetMade {T : Type 0} (base_made : Type 0) (F : FieldMeaning) (w : Worksheet T) : Type 0 where
+  pub base : base_made
   pub laws : FieldLaws F
   pub good : GoodSheet F.ring (sheet_of w)
   pub sized : Each Sized (vec_items w.parts)
