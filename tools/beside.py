@@ -1,7 +1,7 @@
 #!/usr/bin/env python3
 """Times crate `bench` beside a plain Python program that splits the same polynomials, and prints the ratios.
 
-    rt check bench && tools/beside.py [TARGET/BIN/BENCH]
+    (cd crates/bench && rt run) && tools/beside.py [PATH/OF/BENCH]
 
 For each line of `bench time` it forms the same polynomial and splits it here by the same method, written in plain Python with no
 package: rows X^(iq) less X^i modulo f, elimination, and a search for the shift. Sums and products over the orders 256 and 65,536 are
@@ -386,7 +386,7 @@ def ratio(t, other):
 
 def main(argv):
     here = os.path.dirname(os.path.dirname(os.path.abspath(__file__)))
-    lines = measured(argv[0] if argv else os.path.join(here, "target", "bin", "bench"))
+    lines = measured(argv[0] if argv else os.path.join(here, "crates", "bench", "out", "bench"))
     print("name, order, degree: time of bench to that of its first line; to that of this program; to that of sympy")
     for line in lines:
         t = line.bench.time
