@@ -1,9 +1,18 @@
 -- The list of the primes below n: what stands in it is prime, and each prime below n stands in it.
--- Main statements: stands_prime, stands_not.
-use Rattle.std.proofs.Common.{◌≡◌, ℕ, zero, suc, ◌<◌, Bool, true, false, cond, ◌⊎◌, List, [], ◌∷◌, ◌++◌, length, get_or, sym, refl, ap, ◌∙◌, subst, inl, inr, le_of_suc-le-suc, not-suc-le-zero, eq-or-lt_of_le, arith}
+-- Main statements: listed.
+use Rattle.std.proofs.Common.{◌≡◌, ℕ, zero, suc, ◌<◌, Bool, true, false, cond, ◌⊎◌, List, [], ◌∷◌, ◌++◌, ◌||◌, eqb, eqb-true, eq-eqb, sym, refl, ap, ◌∙◌, inl, inr, le_of_suc-le-suc, not-suc-le-zero, eq-or-lt_of_le}
+use Rattle.std.specs.List.{list_any}
 use borrow.Author.Tests.{clash}
 use Rattle.algebra.specs.Lists.{In}
 use Rattle.field.specs.Residues.{is_prime, primes_below}
+
+either : {A : Type 0} (a b : Bool) → (a ≡ true → A) → (b ≡ true → A) → (a || b) ≡ true → A
+either true b f g e = f refl
+either false b f g e = g e
+
+or_true : (a : Bool) → (a || true) ≡ true
+or_true true = refl
+or_true false = refl
 
 module _ (x : ℕ) where
   in_left : (xs ys : List ℕ) → In x xs → In x (xs ++ ys)
@@ -20,16 +29,15 @@ module _ (x : ℕ) where
   in_either (y ∷ xs) ys (inl e) = inl (inl e)
   in_either (y ∷ xs) ys (inr i) = elim (in_either xs ys i) [ inl j ↦ inl (inr j) | inr j ↦ inr j ]
 
-  -- what is in a list stands at some place
-  in_place : (xs : List ℕ) → In x xs → (k : ℕ) × (k < length xs) × (get_or xs k 0 ≡ x)
-  in_place [] i = absurd i
-  in_place (y ∷ xs) (inl e) = (0, omega arith, sym e)
-  in_place (y ∷ xs) (inr i) = let r = in_place xs i in (suc r.0, omega (arith, r.1), r.2)
+  -- a search of a list finds what is in it, and no other number
+  found_in : (xs : List ℕ) → list_any (λ y. eqb y x) xs ≡ true → In x xs
+  found_in [] e = absurd (clash e)
+  found_in (y ∷ xs) e = either (eqb y x) (list_any (λ z. eqb z x) xs) (λ p. inl (sym (eqb-true y x p))) (λ t. inr (found_in xs t)) e
 
-  place_in : (xs : List ℕ) (k : ℕ) → k < length xs → get_or xs k 0 ≡ x → In x xs
-  place_in [] k h e = absurd (not-suc-le-zero h)
-  place_in (y ∷ xs) zero h e = inl (sym e)
-  place_in (y ∷ xs) (suc k) h e = inr (place_in xs k (le_of_suc-le-suc h) e)
+  in_found : (xs : List ℕ) → In x xs → list_any (λ y. eqb y x) xs ≡ true
+  in_found [] i = absurd i
+  in_found (y ∷ xs) (inl e) = ap (λ (b : Bool). b || list_any (λ z. eqb z x) xs) (eq-eqb y x (sym e))
+  in_found (y ∷ xs) (inr i) = ap (λ (b : Bool). eqb y x || b) (in_found xs i) ∙ or_true (eqb y x)
 
 in_one : (x n : ℕ) (b : Bool) → is_prime n ≡ b → In x (cond b (n ∷ []) []) → is_prime x ≡ true
 in_one x n true e (inl p) = ap is_prime p ∙ e
@@ -58,14 +66,11 @@ prime_listed (suc n) x h p = elim (eq-or-lt_of_le (le_of_suc-le-suc h)) [
   | inr l ↦ in_left x (primes_below n) _ (prime_listed n x l p)
 ]
 
--- a number at some place of the list is prime
-pub stands_prime : (n x : ℕ) (list : List ℕ) → list ≡ primes_below n → (k : ℕ) → k < length list → get_or list k 0 ≡ x → is_prime x ≡ true
-stands_prime n x list e k h at = listed_prime n x (subst (λ (xs : List ℕ). In x xs) e (place_in x list k h at))
-
--- a number below n at no place of it is not
-pub stands_not : (n x : ℕ) (list : List ℕ) → list ≡ primes_below n → x < n → ((k : ℕ) → k < length list → get_or list k 0 ≡ x → ⊥) → is_prime x ≡ false
-stands_not n x list e h none = go (is_prime x) refl
+-- a search of the list tells of a number below n whether it is prime
+pub listed : (n x : ℕ) → x < n → list_any (λ y. eqb y x) (primes_below n) ≡ is_prime x
+listed n x h = go _ (is_prime x) refl refl
   where
-    go : (b : Bool) → is_prime x ≡ b → b ≡ false
-    go true p = let r = in_place x list (subst (λ (xs : List ℕ). In x xs) (sym e) (prime_listed n x h p)) in absurd (none r.0 r.1 r.2)
-    go false p = refl
+    go : (a b : Bool) → list_any (λ y. eqb y x) (primes_below n) ≡ a → is_prime x ≡ b → a ≡ b
+    go true b e p = sym (listed_prime n x (found_in x (primes_below n) e)) ∙ p
+    go false true e p = sym e ∙ in_found x (primes_below n) (prime_listed n x h p)
+    go false false e p = refl

@@ -1,7 +1,7 @@
 -- The remainder of a list of codes by the monic polynomial with given lower codes; rows that suit for a product.
 -- Main statements: reduced_by_length, reduced_by_coded, reduced_by_divides, reduced_by_unique; Suited, suited, suits;
--- each_below_all, each_below_not; row_coded.
-use Rattle.std.proofs.Common.{◌≡◌, ℕ, zero, suc, ◌<◌, ◌≤◌, Bool, true, false, ◌&&◌, eqb, ltb, List, [], ◌∷◌, ◌++◌, length, get_or, sym, refl, ap, ◌∙◌, subst, ap₂, arith, ext_get_or, ltb-true, le-ltb, lt-ltb, eq-eqb, eqb-true}
+-- each_below_at, each_below_all; row_coded.
+use Rattle.std.proofs.Common.{◌≡◌, ℕ, zero, suc, ◌<◌, ◌≤◌, true, ◌&&◌, eqb, ltb, List, [], ◌∷◌, ◌++◌, length, get_or, sym, refl, ap, ◌∙◌, subst, ap₂, arith, ext_get_or, ltb-true, lt-ltb, eq-eqb, eqb-true}
 use native.Mathlib.Decide.{dec_lt}
 use lib.ListN.{length-map, length-replicate, get_or-eq_default}
 use Rattle.algebra.specs.Ring.{Scalars}
@@ -88,16 +88,6 @@ pub each_below_all : (b : ℕ) (xs : List ℕ) → ((i : ℕ) → i < length xs 
 unfolding each_below
 each_below_all b [] h = refl
 each_below_all b (x ∷ xs) h = ap₂ ◌&&◌ (lt-ltb x b (h 0 (omega arith))) (each_below_all b xs (λ i l. h (suc i) (omega arith)))
-
-pub each_below_not : (b : ℕ) (xs : List ℕ) (i : ℕ) → i < length xs → b ≤ get_or xs i 0 → each_below b xs ≡ false
-unfolding each_below
-each_below_not b [] i h l = absurd (omega arith)
-each_below_not b (x ∷ xs) zero h l = ap (λ (t : Bool). t && each_below b xs) (le-ltb x b l)
-each_below_not b (x ∷ xs) (suc i) h l = ap (λ (t : Bool). ltb x b && t) (each_below_not b xs i (omega arith) l) ∙ and_false (ltb x b)
-  where
-    and_false : (t : Bool) → (t && false) ≡ false
-    and_false true = refl
-    and_false false = refl
 
 -- what rows that suit are
 pub record Suited (r : RingMeaning) (lower left right row : List ℕ) : Type 0 where

@@ -1,30 +1,21 @@
 -- Rows of k codes as the digits of codes of a quotient.
--- Main statements: written, row_codes, row_small, row_below; sum_number, opposite_number, product_number; capped_order.
-use Rattle.std.proofs.Common.{◌≡◌, ℕ, suc, ◌^◌, ◌<◌, ◌≤◌, min, true, List, map, length, get_or, take, replicate, sym, ap, ◌∙◌, subst, ap₂, arith, length-take-le, ext_get_or}
+-- Main statements: row_codes; sum_number, opposite_number; digits_suit, product_codes, product_number.
+use Rattle.std.proofs.Common.{◌≡◌, ℕ, ◌^◌, ◌<◌, ◌≤◌, true, List, map, length, get_or, take, replicate, sym, ap, ◌∙◌, subst, ap₂, arith, length-take-le, ext_get_or}
 use lib.ListN.{length-map, get_or-map}
 use Rattle.field.specs.Checks.{below}
-use Rattle.field.specs.Ring.{RingMeaning, RingLaws, greatest_order}
+use Rattle.field.specs.Ring.{RingMeaning, RingLaws}
 use Rattle.field.specs.Polynomial.{coefficient, product}
 use Rattle.field.specs.Quotient.{greatest_height, digits, from_digits, reduced, reduced_by, quotient_ring}
 use Rattle.field.specs.Rows.{IsRow, each_below, rows_suit}
 use Rattle.field.specs.Digits.{digits_length, digits_below, number_digits}
 use Rattle.field.specs.OnCodes.{at_codes, at_a_code}
 use Rattle.field.specs.Scalars.{zero_is_code, opposite_zero}
-use Rattle.field.proofs.Remainders.{each_below_all, reduced_by_length, reduced_by_coded, suits}
+use Rattle.field.proofs.Remainders.{each_below_all, reduced_by_coded, suits}
 use Rattle.field.proofs.Rows.{row_is}
 
 -- the first k of sixteen zeros
 pub zeros_long : (n k : ℕ) → n ≡ k → k ≤ greatest_height → length {A = ℕ} (take n (replicate greatest_height 0)) ≡ k
 zeros_long n k e h = length-take-le {A = ℕ} n (replicate greatest_height 0) (omega (arith, e, h)) ∙ e
-
--- the digits of a number, written over the first k of sixteen zeros
-pub written : (o b n k x y : ℕ) (xs : List ℕ) → xs ≡ digits o (length {A = ℕ} (take n (replicate greatest_height 0))) x → o ≡ b → n ≡ k → k ≤ greatest_height → x ≡ y → xs ≡ digits b k y
-written o b n k x y xs e p q h t =
-    e ∙ ap₂ (λ (i j : ℕ). digits i j x) p (zeros_long n k q h) ∙ ap (digits b k) t
-
--- an order that is asked for, and a number below it
-pub capped_order : (o b n k q : ℕ) → q ≡ min (o ^ n) (suc greatest_order) → o ≡ b → n ≡ k → b ^ k ≤ greatest_order → q ≡ b ^ k
-capped_order o b n k q e p t h = omega (arith, e, ap₂ ◌^◌ p t, h)
 
 module _ (r : RingMeaning) (L : RingLaws r) (k : ℕ) where
   abbrev q : ℕ
@@ -34,15 +25,8 @@ module _ (r : RingMeaning) (L : RingLaws r) (k : ℕ) where
   pub digit_codes : (x : ℕ) (xs : List ℕ) → xs ≡ digits r.order k x → (i : ℕ) → i < length xs → get_or xs i 0 < r.order
   digit_codes x xs e i h = subst (λ (ys : List ℕ). coefficient ys i < r.order) (sym e) (digits_below r.order k x (zero_is_code r L) i)
 
-  pub row_codes : (xs : List ℕ) (n : ℕ) (c : ℕ → ℕ) → IsRow xs n c → ((i : ℕ) → c i < r.order) → (i : ℕ) → i < length xs → get_or xs i 0 < r.order
-  row_codes xs n c s h i l = subst (λ (x : ℕ). x < r.order) (sym (s.at i (omega (arith, l, s.sized)))) (h i)
-
-  -- the number of a row is asked for
-  pub row_small : (o : ℕ) (xs : List ℕ) → o ≡ r.order → length xs ≡ k → q ≤ greatest_order → o ^ length xs ≤ greatest_order
-  row_small o xs e long high = subst (λ (x : ℕ). x ≤ greatest_order) (sym (ap₂ ◌^◌ e long)) high
-
-  pub row_below : (o : ℕ) (xs : List ℕ) → o ≡ r.order → ((i : ℕ) → i < length xs → get_or xs i 0 < r.order) → each_below o xs ≡ true
-  row_below o xs e h = ap (λ (b : ℕ). each_below b xs) e ∙ each_below_all r.order xs h
+  pub row_codes : (xs : List ℕ) (n : ℕ) (c : ℕ → ℕ) → IsRow xs n c → ((i : ℕ) → c i < r.order) → each_below r.order xs ≡ true
+  row_codes xs n c s h = each_below_all r.order xs (λ i l. subst (λ (x : ℕ). x < r.order) (sym (s.at i (omega (arith, l, s.sized)))) (h i))
 
   -- the operations on codes by their digits
   pub sum_number : (m a b n : ℕ) (left right xs : List ℕ) → left ≡ digits r.order k a → right ≡ digits r.order k b → IsRow xs n (λ i. r.sum (get_or left i 0) (get_or right i 0)) → n ≡ k →
@@ -75,11 +59,8 @@ module _ (r : RingMeaning) (L : RingLaws r) (k : ℕ) where
     })
 
     module _ (f xs : List ℕ) (s : xs ≡ reduced_by r lower f) where
-      pub product_long : length xs ≡ k
-      product_long = ap length s ∙ reduced_by_length r lower f ∙ lower_long
-
-      pub product_codes : (i : ℕ) → i < length xs → get_or xs i 0 < r.order
-      product_codes i h = subst (λ (ys : List ℕ). get_or ys i 0 < r.order) (sym s) (reduced_by_coded r L lower f i)
+      pub product_codes : each_below r.order xs ≡ true
+      product_codes = each_below_all r.order xs (λ i h. subst (λ (ys : List ℕ). get_or ys i 0 < r.order) (sym s) (reduced_by_coded r L lower f i))
 
     pub product_number : (a b : ℕ) (left right xs : List ℕ) → left ≡ digits r.order k a → right ≡ digits r.order k b → xs ≡ reduced_by r lower (product r left right) →
         m < q → a < q → b < q → from_digits r.order xs ≡ (quotient_ring r k m).product a b

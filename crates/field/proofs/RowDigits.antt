@@ -1,33 +1,21 @@
--- The digits of a number as a loop writes them, the number of a row as a loop sums it up, and a power as a loop multiplies it.
--- Main statements: Taken, taken_none, taken_more, taken_all; number_none, number_more, number_fits, number_all; capped_more.
-use Rattle.std.proofs.Common.{◌≡◌, ℕ, suc, ◌+◌, ◌-◌, ◌*◌, ◌/◌, ◌%◌, ◌^◌, ◌<◌, ◌≤◌, min, true, List, [], ◌∷◌, length, get_or, drop, set, sym, refl, ap, ◌∙◌, subst, ap₂, mul-le-mul_left, pow-suc, add-one, arith, length-drop, get_or-drop, get_or-set_other, get_or-set_same, ext_get_or}
+-- The digits of a number as a loop writes them, and the number of a row as a loop sums it up.
+-- Main statements: Taken, taken_more, taken_all; number_none, number_more, number_small, number_fits.
+use Rattle.std.proofs.Common.{◌≡◌, ℕ, suc, ◌+◌, ◌-◌, ◌*◌, ◌/◌, ◌%◌, ◌^◌, ◌<◌, ◌≤◌, true, List, [], ◌∷◌, length, get_or, drop, set, sym, refl, ap, ◌∙◌, subst, arith, length-drop, get_or-drop, get_or-set_other, get_or-set_same, ext_get_or}
+use Rattle.std.proofs.lemmas.List.{drop_all}
 use native.Mathlib.Nat.{pow-le-pow_right}
-use native.Mathlib.Decide.{dec_le, dec_lt, ℕ_discrete}
+use native.Mathlib.Decide.{dec_lt, ℕ_discrete}
 use lib.ListN.{get_or-eq_default}
-use lib.Seq.{drop-length}
 use Rattle.field.specs.Ring.{greatest_order}
 use Rattle.field.specs.Quotient.{digits, from_digits}
 use Rattle.field.specs.Rows.{each_below}
 use Rattle.field.specs.Digits.{digits_length, number_below}
 use Rattle.field.proofs.Remainders.{each_below_at}
-use Rattle.field.proofs.RowProducts.{drop_less}
+use Rattle.field.proofs.RowSteps.{FromTop, top_none, top_more}
 
 -- the i lowest of n digits of x are written, and those of `rest` follow them
 pub record Taken (b x n : ℕ) (row : List ℕ) (i rest : ℕ) : Type 0 where
   pub done : (j : ℕ) → j < i → get_or row j 0 ≡ get_or (digits b n x) j 0
   pub next : (j : ℕ) → get_or (digits b n x) (i + j) 0 ≡ get_or (digits b (n - i) rest) j 0
-
-pub taken_none : (b x n : ℕ) (row : List ℕ) → Taken b x n row 0 x
-taken_none b x n row = record {
-  done = λ j h. absurd (omega arith);
-  next = λ j. ap₂ (λ (i k : ℕ). get_or (digits b k x) i 0) (zeroth j) whole;
-}
-  where
-    zeroth : (j : ℕ) → 0 + j ≡ j
-    zeroth j = omega arith
-
-    whole : n ≡ n - 0
-    whole = omega arith
 
 digits_next : (b k x j : ℕ) → get_or (digits b (suc k) x) (suc j) 0 ≡ get_or (digits b k (x / b)) j 0
 unfolding digits
@@ -67,41 +55,31 @@ number_nil : (b : ℕ) → from_digits b [] ≡ 0
 unfolding from_digits
 number_nil b = refl
 
-pub number_none : (b : ℕ) (xs : List ℕ) → 0 ≡ from_digits b (drop (length xs) xs)
-number_none b xs = sym (ap (from_digits b) (drop-length xs) ∙ number_nil b)
+-- the number of the digits read so far, from the highest down
+pub number_none : (b : ℕ) (xs : List ℕ) → 0 ≡ from_digits b (drop (length xs - 0) xs)
+number_none b xs = sym (ap (from_digits b) (top_none xs) ∙ number_nil b)
 
-pub number_more : (b n i : ℕ) (xs : List ℕ) → 0 < i → i ≤ length xs → n ≡ from_digits b (drop i xs) → get_or xs (i - 1) 0 + b * n ≡ from_digits b (drop (i - 1) xs)
-number_more b n i xs some h e = ap (λ (y : ℕ). get_or xs (i - 1) 0 + b * y) e ∙ sym (ap (from_digits b) (drop_less xs i some h) ∙ number_cons b (get_or xs (i - 1) 0) (drop i xs))
+pub number_more : (b m k n x : ℕ) (xs : List ℕ) → FromTop xs k x → n ≡ k + 1 → m ≡ from_digits b (drop (length xs - k) xs) → x + b * m ≡ from_digits b (drop (length xs - n) xs)
+number_more b m k n x xs t next e = ap (λ (y : ℕ). x + b * y) e ∙ sym (ap (from_digits b) (top_more xs k n x t next) ∙ number_cons b x (drop (length xs - k) xs))
 
-number_small : (b i : ℕ) (xs : List ℕ) → 0 < b → b ^ length xs ≤ greatest_order → each_below b xs ≡ true → from_digits b (drop i xs) < greatest_order
-number_small b i xs some h d = omega (
+-- it is small
+pub number_small : (b i : ℕ) (xs : List ℕ) → b ^ length xs ≤ greatest_order → each_below b xs ≡ true → from_digits b (drop i xs) < greatest_order
+number_small b i [] small d = omega (arith, ap (from_digits b) (drop_all {X = ℕ} i [] (omega arith)), number_nil b)
+number_small b i (y ∷ ys) small d = omega (
   arith,
   number_below b (drop i xs) (λ j. subst (λ (x : ℕ). x < b) (sym (get_or-drop i xs j 0)) (within (i + j))),
   pow-le-pow_right some {i = length (drop i xs)} {j = length xs} (omega (arith, length-drop i xs)),
 )
   where
+    xs : List ℕ
+    xs = y ∷ ys
+
+    some : 0 < b
+    some = omega (arith, each_below_at b xs d 0 (omega arith))
+
     within : (j : ℕ) → get_or xs j 0 < b
     within j = elim (dec_lt j (length xs)) [ yes l ↦ each_below_at b xs d j l | no l ↦ subst (λ (x : ℕ). x < b) (sym (get_or-eq_default xs 0 (omega (arith, l)))) some ]
 
--- what the next turn reckons is small
-pub number_fits : (b n i : ℕ) (xs : List ℕ) → 0 < i → i ≤ length xs → b ^ length xs ≤ greatest_order → each_below b xs ≡ true → n ≡ from_digits b (drop i xs) → get_or xs (i - 1) 0 + b * n < greatest_order
-number_fits b n i xs some h small d e =
-    subst (λ (x : ℕ). x < greatest_order) (sym (number_more b n i xs some h e)) (number_small b (i - 1) xs (omega (arith, each_below_at b xs d (i - 1) (omega arith))) small d)
-
--- the number of the whole row
-pub number_all : (b n i : ℕ) (xs : List ℕ) → i ≤ 0 → b ^ length xs ≤ greatest_order → each_below b xs ≡ true → n ≡ from_digits b (drop i xs) → n < greatest_order
-number_all b n i [] h small d e =
-    let z : i ≡ 0 = omega arith in
-    omega (arith, e, ap (λ (j : ℕ). from_digits b (drop {A = ℕ} j [])) z, number_nil b)
-number_all b n i (x ∷ xs) h small d e = omega (arith, e, number_small b i (x ∷ xs) (omega (arith, each_below_at b (x ∷ xs) d 0 (omega arith))) small d)
-
--- a power that is capped, times the base once more
-pub capped_more : (b q i c : ℕ) → 0 < b → q ≡ min (b ^ i) c → min (q * b) c ≡ min (b ^ (i + 1)) c
-capped_more b q i c some e = go (dec_le (b ^ i) c)
-  where
-    next : b ^ (i + 1) ≡ b ^ i * b
-    next = ap (λ (j : ℕ). b ^ j) (add-one i) ∙ pow-suc b i
-
-    go : Dec (b ^ i ≤ c) → min (q * b) c ≡ min (b ^ (i + 1)) c
-    go (yes l) = let is : q ≡ b ^ i = omega arith in ap (λ (x : ℕ). min x c) (ap (λ (x : ℕ). x * b) is ∙ sym next)
-    go (no l) = let is : q ≡ c = omega arith in omega (arith, next, ap (λ (x : ℕ). x * b) is, mul-le-mul_left c some, mul-le-mul_left (b ^ i) some)
+-- and so is what the next turn reckons
+pub number_fits : (b m k x : ℕ) (xs : List ℕ) → FromTop xs k x → b ^ length xs ≤ greatest_order → each_below b xs ≡ true → m ≡ from_digits b (drop (length xs - k) xs) → x + b * m < greatest_order
+number_fits b m k x xs t small d e = subst (λ (y : ℕ). y < greatest_order) (sym (number_more b m k (k + 1) x xs t refl e)) (number_small b (length xs - (k + 1)) xs small d)

@@ -1,9 +1,8 @@
 -- The product of two rows, from the highest code of the left one down, is the remainder of the product of their polynomials.
--- Main statements: Reduced, horner_none, horner_more, horner_all; drop_less.
-use Rattle.std.proofs.Common.{◌≡◌, ℕ, zero, suc, ◌+◌, ◌-◌, ◌<◌, ◌≤◌, List, [], ◌∷◌, ◌++◌, length, get_or, drop, replicate, sym, refl, ap, ◌∙◌, subst, ap₂, arith, get_or-drop, drop-cons}
+-- Main statements: Reduced, horner_none, horner_more, horner_all.
+use Rattle.std.proofs.Common.{◌≡◌, ℕ, zero, suc, ◌+◌, ◌-◌, ◌<◌, ◌≤◌, List, [], ◌∷◌, ◌++◌, length, drop, replicate, sym, refl, ap, ◌∙◌, subst, ap₂, arith, get_or-drop}
 use native.Mathlib.Decide.{dec_lt}
 use lib.ListN.{length-replicate, get_or-replicate, get_or-eq_default, get_or-append}
-use lib.Seq.{drop-length}
 use Rattle.algebra.specs.Ring.{Scalars}
 use Rattle.algebra.proofs.Laws.{zero_⊗, add_neg}
 use Rattle.algebra.proofs.Solver.{◌:+◌, ◌:*◌, ◌:-◌, ring, A, B, C, D, E, F}
@@ -11,6 +10,7 @@ use Rattle.algebra.proofs.Poly.{Polys, zero_coef, sum_coef}
 use Rattle.algebra.proofs.Terms.{const, X, const_mul_coef, X_coef_zero, X_coef_suc}
 use Rattle.algebra.proofs.Divides.{Divides}
 use Rattle.algebra.proofs.Low.{onto_coef_zero, onto_coef_suc}
+use Rattle.field.proofs.RowSteps.{FromTop, top_none, top_more, top_all}
 use Rattle.field.specs.Ring.{RingMeaning, RingLaws, one}
 use Rattle.field.specs.Polynomial.{coefficient, product}
 use Rattle.field.specs.Quotient.{from_digits, modulus, lowered, reduced_by}
@@ -21,12 +21,6 @@ use Rattle.field.specs.Scalars.{Code, CodeScalars, sum_codes, product_codes, zer
 use Rattle.field.specs.Polynomials.{Coded, P as CodePoly, code_at, poly_of, poly_of_code, poly_of_is, product_canonical, poly_product_coded}
 use Rattle.field.specs.Quotients.{modulus_poly, lowered_poly, lowered_coded, lowered_length}
 use Rattle.field.proofs.Remainders.{monic_poly_is, reduced_by_unique}
-
--- one code more of the left factor
-pub drop_less : (xs : List ℕ) (i : ℕ) → 0 < i → i ≤ length xs → drop (i - 1) xs ≡ get_or xs (i - 1) 0 ∷ drop i xs
-drop_less xs i some h =
-    let s : suc (i - 1) ≡ i = omega arith in
-    drop-cons xs (i - 1) 0 (omega arith) ∙ ap (λ (j : ℕ). get_or xs (i - 1) 0 ∷ drop j xs) s
 
 module _ (r : RingMeaning) (L : RingLaws r) (lower : List ℕ) (some : 1 ≤ length lower) where
   infixl 65 ◌⊕◌
@@ -149,21 +143,21 @@ module _ (r : RingMeaning) (L : RingLaws r) (lower : List ℕ) (some : 1 ≤ len
 
     module _ (left : List ℕ) (hl : Coded r left) where
       -- before the first turn of the loop, at each turn and at its end
-      pub horner_none : (row : List ℕ) → row ≡ replicate k 0 → Reduced (drop (length left) left) right row
-      horner_none row e = subst (λ (xs : List ℕ). Reduced xs right row) (sym (drop-length left)) (reduced_none right row e)
+      pub horner_none : (row : List ℕ) → row ≡ replicate k 0 → Reduced (drop (length left - 0) left) right row
+      horner_none row e = subst (λ (xs : List ℕ). Reduced xs right row) (sym (top_none left)) (reduced_none right row e)
 
-      pub horner_more : (i : ℕ) (row new : List ℕ) → 0 < i → i ≤ length left → Reduced (drop i left) right row →
-          IsRow new (length row) (stepped r lower (get_or left (i - 1) 0) right row) → Reduced (drop (i - 1) left) right new
-      horner_more i row new p h w s =
-          subst (λ (xs : List ℕ). Reduced xs right new) (sym (drop_less left i p h))
-          (reduced_more (get_or left (i - 1) 0) (drop i left) row new (hl (i - 1)) (λ j. subst (λ (x : ℕ). x < r.order) (sym (get_or-drop i left j 0)) (hl (i + j))) w
-          (subst (λ (j : ℕ). IsRow new j (stepped r lower (get_or left (i - 1) 0) right row)) w.long s))
+      pub horner_more : (i n x : ℕ) (row new : List ℕ) → FromTop left i x → n ≡ i + 1 → Reduced (drop (length left - i) left) right row →
+          IsRow new (length row) (stepped r lower x right row) → Reduced (drop (length left - n) left) right new
+      horner_more i n x row new t next w s =
+          subst (λ (xs : List ℕ). Reduced xs right new) (sym (top_more left i n x t next))
+          (reduced_more x (drop (length left - i) left) row new (subst (λ (y : ℕ). y < r.order) (sym t.value) (hl (length left - i - 1))) (λ j. subst (λ (y : ℕ). y < r.order) (sym (get_or-drop (length left - i) left j 0)) (hl (length left - i + j))) w
+          (subst (λ (j : ℕ). IsRow new j (stepped r lower x right row)) w.long s))
 
-      pub horner_all : (i : ℕ) (row : List ℕ) → i ≤ 0 → Reduced (drop i left) right row → row ≡ reduced_by r lower (product r left right)
-      horner_all i row none w =
+      pub horner_all : (i : ℕ) (row : List ℕ) → i ≡ length left → Reduced (drop (length left - i) left) right row → row ≡ reduced_by r lower (product r left right)
+      horner_all i row all w =
           reduced_by_unique r L lower hm some (product r left right) row (code_at r L _ (product_canonical r L left right)) w.coded w.long
           (subst (λ (x : P). Divides (Polys S) x (poly_of r L (product r left right) ⊕ neg (poly_of r L row))) (monic_poly_is r L lower hm some)
           (subst (λ (x : P). Divides (Polys S) M (x ⊕ neg (poly_of r L row))) (sym (poly_product_coded r L left right hl hr)) whole.same))
         where
           whole : Reduced left right row
-          whole = let z : i ≡ 0 = omega arith in subst (λ (j : ℕ). Reduced (drop j left) right row) z w
+          whole = subst (λ (xs : List ℕ). Reduced xs right row) (top_all left i all) w

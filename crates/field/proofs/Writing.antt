@@ -1,6 +1,6 @@
--- What a loop that writes a stretch of a slice keeps: at its start, at each turn and at its end.
--- Main statements: written_none, written_more, written_all, written_outside.
-use Rattle.std.proofs.Common.{◌≡◌, ℕ, ◌+◌, ◌<◌, ◌≤◌, ◌≢◌, ◌⊎◌, List, length, get_or, set, sym, refl, ap, ◌∙◌, subst, ⊎_elim, arith, get_or-set_other, get_or-set_same}
+-- What a loop that writes a stretch of a slice keeps: at its start and at each turn.
+-- Main statements: written_none, written_more, written_outside.
+use Rattle.std.proofs.Common.{◌≡◌, ℕ, ◌+◌, ◌<◌, ◌≤◌, ◌≢◌, ◌⊎◌, List, length, get_or, set, sym, refl, ap, ◌∙◌, ⊎_elim, arith, get_or-set_other, get_or-set_same}
 use Rattle.std.proofs.lemmas.Bool.{cases_eq}
 use Rattle.field.specs.Rows.{Written}
 
@@ -19,10 +19,6 @@ written_more old new p i v f w h e = record {
   before = λ k l. let ne : k ≢ p + i = omega arith in get_or-set_other new (p + i) k v 0 ne ∙ w.before k l;
   after = λ k l. let ne : k ≢ p + i = omega arith in get_or-set_other new (p + i) k v 0 ne ∙ w.after k (omega arith);
 }
-
--- all n codes
-pub written_all : (old new : List ℕ) (p i n : ℕ) (f : ℕ → ℕ) → i ≤ n → n ≤ i → Written old new p i f → Written old new p n f
-written_all old new p i n f a b w = let e : i ≡ n = omega arith in subst (λ (x : ℕ). Written old new p x f) e w
 
 -- a place outside of what was written is as it was
 pub written_outside : {old new : List ℕ} {p n : ℕ} {f : ℕ → ℕ} → Written old new p n f → (k : ℕ) → (k < p) ⊎ (p + n ≤ k) → get_or new k 0 ≡ get_or old k 0

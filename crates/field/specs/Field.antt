@@ -19,6 +19,14 @@ pub record FieldMeaning : Type 0 where
 abbrev pub means : RingMeaning → FieldExtras → FieldMeaning
 means m e = record { ring = m; characteristic = e.characteristic; exponent = e.exponent; inverse = e.inverse }
 
+-- what the trait of fields tells of each value of a type
+abbrev pub Told : Type 0 → Type 1
+Told A = record { meaning : A → RingMeaning; made : A → Type 0; extras : A → FieldExtras }
+
+-- the meaning of the field that a value is
+abbrev pub field_of : {A : Type 0} → Told A → A → FieldMeaning
+field_of t x = means (t.meaning x) (t.extras x)
+
 -- p is the smallest positive count of ones whose sum is zero
 pub record Characteristic (m : RingMeaning) (p : ℕ) : Type 0 where
   pub positive : 0 < p

@@ -1,5 +1,6 @@
 -- Rows of codes in memory.
-use Rattle.std.specs.Prelude.{◌≡◌, ℕ, ◌+◌, ◌-◌, ◌<◌, ◌≤◌, Bool, true, false, ◌&&◌, List, [], ◌∷◌, length, MatchBool, ◌==◌, nat_lt, slice_index}
+use Rattle.std.specs.Prelude.{◌≡◌, ℕ, ◌+◌, ◌-◌, ◌<◌, ◌≤◌, Bool, true, ◌&&◌, List, [], ◌∷◌, length, MatchBool, Result, IsOk, IsErr, ◌==◌, nat_lt, slice_index}
+use Rattle.field.specs.declared.row_products.RowFault.{RowFault}
 use Rattle.field.specs.Ring.{RingMeaning}
 use Rattle.field.specs.Polynomial.{coefficient, product}
 use Rattle.field.specs.Quotient.{reduced_by}
@@ -26,11 +27,11 @@ rows_suit m lower left right row =
     (nat_lt 0 (length row) && length lower == length row && length left == length row && length right == length row)
     && (each_below m.order lower && each_below m.order left && each_below m.order right)
 
--- The product of two rows modulo the monic polynomial with the lower codes `lower`, where the rows suit: the answer r is
--- whether they do, and else the row is left as it was.
-abbrev pub MultipliesModulo : RingMeaning → List ℕ → List ℕ → List ℕ → List ℕ → Bool → List ℕ → Type 0
+-- The product of two rows modulo the monic polynomial with the lower codes `lower`: the answer r is Ok where the rows suit, and
+-- else it is Err and the row is left as it was.
+abbrev pub MultipliesModulo : RingMeaning → List ℕ → List ℕ → List ℕ → List ℕ → Result Unit RowFault → List ℕ → Type 0
 MultipliesModulo m lower left right before r after =
-    MatchBool (rows_suit m lower left right before) ((r ≡ true) × (after ≡ reduced_by m lower (product m left right))) ((r ≡ false) × (after ≡ before))
+    MatchBool (rows_suit m lower left right before) (IsOk r × (after ≡ reduced_by m lower (product m left right))) (IsErr r × (after ≡ before))
 
 -- one step of that product: the code at place i of X old + a right, less the multiple of the monic polynomial that takes its
 -- highest power away

@@ -1,7 +1,8 @@
 -- What a search for the first number that passes a test has found.
--- Main statements: sought; first_found, none_found.
+-- Main statements: sought; first_found, none_found, found_below.
 use Rattle.std.specs.Prelude.{◌≡◌, ℕ, zero, suc, ◌+◌, ◌<◌, ◌≤◌, Bool, true, false, Some, None, Option, refl}
-use Rattle.std.proofs.Common.{sym, ◌∙◌, ap, inl, inr, eq-or-lt_of_le, arith}
+use Rattle.std.proofs.Common.{sym, ◌∙◌, ap, inl, inr, eq-or-lt_of_le, cond, add-one, arith}
+use Rattle.std.specs.List.{find, range_with_len}
 use Rattle.std.proofs.Math.Decide.{dec_lt}
 use borrow.Author.Tests.{clash}
 use Rattle.field.specs.Checks.{seek, first_below}
@@ -47,3 +48,16 @@ none_found n test h = go (first_below n test) (sought test 0 n)
     go : (o : Option ℕ) → Sought test 0 n o → o ≡ None
     go None s = refl
     go (Some j) s = absurd (clash (sym (h j (omega (arith, s.1))) ∙ s.2))
+
+picked : {A : Type 0} (b : Bool) (a : A) (o p : Option A) → o ≡ p → cond b (Some a) o ≡ elim b [ true ↦ Some a | false ↦ p ]
+picked true a o p e = refl
+picked false a o p e = e
+
+found_from : (test : ℕ → Bool) (from count : ℕ) → find test (range_with_len from count) ≡ seek test from count
+unfolding seek
+found_from test from zero = refl
+found_from test from (suc count) = picked (test from) from _ _ (ap (λ (i : ℕ). find test (range_with_len i count)) (add-one from) ∙ found_from test (suc from) count)
+
+-- the first of 0 to n - 1 that passes the test
+pub found_below : (n : ℕ) (test : ℕ → Bool) → find test (range_with_len 0 n) ≡ first_below n test
+found_below n test = found_from test 0 n

@@ -4,8 +4,8 @@
 // ring or every field, and knows no more of it than the traits tell.
 #![tactic(auto)]
 
+mod asking;
 mod fault;
-mod making;
 mod modular;
 mod polynomial_quotient;
 mod powers;
@@ -16,12 +16,16 @@ mod symbols;
 mod tables;
 mod traits;
 
+pub use asking::ask;
 pub use fault::FieldFault;
 pub use modular::Residues;
 pub use polynomial_quotient::Quotient;
 pub use powers::power_code;
 pub use primes::PrimeField;
-pub use row_digits::write_polynomial;
-pub use row_products::multiply_modulo;
+pub use row_digits::{scale, write_polynomial};
+pub use row_products::{RowFault, multiply_modulo};
 pub use symbols::SymbolField;
 pub use traits::{Field, Ring};
+
+// The code of one.
+pub const ONE: u16 = 1;

@@ -2,10 +2,7 @@
 ghost use Rattle.std.specs.Prelude.{◌≡◌};
 ghost use Rattle.field.specs.Ring.{power};
 
-use crate::Ring;
-
-// The code of one.
-const ONE: u16 = 1;
+use crate::{ONE, Ring};
 
 // The code a to the power n, by squaring: about as many products as n has digits in base 2. A number that is no code has the power
 // 1 at 0, and 0 above.

@@ -1,10 +1,10 @@
-ghost use Rattle.std.specs.Prelude.{◌≡◌, ℕ, ◌<◌, ◌≤◌, true, None};
+ghost use Rattle.std.specs.Prelude.{◌≡◌, ◌≤◌, None};
 ghost use Rattle.field.specs.Residues.{residues, is_prime, primes_below, prime_extras, greatest_modulus};
 ghost use Rattle.field.specs.Field.{inverse_in};
-ghost use Rattle.field.specs.Faults.{residues_refusal, PrimeMade};
+ghost use Rattle.field.specs.Faults.{Makes, residues_refusal, prime_refusal, PrimeMade};
 ghost use Rattle.std.proofs.Common.{rules};
 
-use crate::{Field, Residues, Ring};
+use crate::{Field, FieldFault, ONE, Residues, Ring};
 
 // The 54 primes from 2 to 251.
 const PRIMES: [u16; 54] = [
@@ -13,32 +13,38 @@ const PRIMES: [u16; 54] = [
     197, 199, 211, 223, 227, 229, 233, 239, 241, 251,
 ];
 
-// Whether n stands in a list of all primes up to 256.
-fn stands_in(list: &[u16], n: u16) -> bool
-    requires listed { list.now ≡ primes_below 257 }
-    requires small { n ≤ greatest_modulus }
-    ensures { result ≡ is_prime n }
+// The list of all primes up to 256.
+fn primes() -> &'static [u16; 54]
+    ensures { result.now ≡ primes_below 257 }
 {
-    for p in list {
-        if *p == n {
-            return true;
-        }
-    }
-    false
+    &PRIMES
 }
 
 // Whether a number of at most 256 is prime.
-pub(crate) fn in_primes(n: u16) -> bool
+fn in_primes(n: u16) -> bool
     requires { n ≤ greatest_modulus }
     ensures { result ≡ is_prime n }
 {
-    stands_in(&PRIMES, n)
+    primes().contains(&n)
 }
 
 // The residues modulo a prime from 2 to 251.
 #[derive(Clone, Copy)]
 pub struct PrimeField {
-    pub(crate) base: Residues,
+    base: Residues,
+}
+
+impl PrimeField {
+    // The residues modulo n as a field; refused with 1 unless n is 2 to 256, then with 2 unless it is prime.
+    pub fn new(n: u32) -> Result<PrimeField, FieldFault>
+        ensures { Makes (prime_refusal n) (λ x. ⟦<PrimeField as Ring>⟧.made x × (⟦<PrimeField as Ring>⟧.meaning x ≡ residues n) × (⟦<PrimeField as Field>⟧.extras x ≡ prime_extras n)) result }
+    {
+        let base = Residues::new(n)?;
+        if !in_primes(base.n) {
+            return Err(FieldFault::NotPrime);
+        }
+        Ok(PrimeField { base })
+    }
 }
 
 impl Ring for PrimeField {
@@ -70,12 +76,7 @@ fn inverse_modulo(base: &Residues, a: u16) -> Option<u16>
     requires { residues_refusal base.now.n ≡ None }
     ensures { result ≡ inverse_in (residues base.now.n) a }
 {
-    for b in 0..base.n {
-        if base.product(a, b) == 1 {
-            return Some(b);
-        }
-    }
-    None
+    (0..base.n).find(|b| base.product(a, *b) == ONE)
 }
 
 impl Field for PrimeField {

@@ -1,25 +1,10 @@
 // Rows of digits: the digits of a number and the number of a row, and sums and opposites of codes place by place.
-ghost use Rattle.std.specs.Prelude.{◌≡◌, suc, ◌^◌, ◌<◌, ◌≤◌, min, true, length, slice_index};
+ghost use Rattle.std.specs.Prelude.{◌≡◌, ◌^◌, ◌<◌, ◌≤◌, true, length, slice_index};
 ghost use Rattle.field.specs.Ring.{greatest_order};
 ghost use Rattle.field.specs.Quotient.{digits, from_digits};
 ghost use Rattle.field.specs.Rows.{IsRow, each_below};
 
 use crate::Ring;
-
-// One more than the greatest order of a ring.
-const CAP: u64 = 65537;
-
-// b to the power k, or 65,537 where that is less.
-pub(crate) fn capped_power(b: u32, k: u32) -> u32
-    requires { (0 < b) × (b ≤ greatest_order) }
-    ensures { result ≡ min (b ^ k) (suc greatest_order) }
-{
-    let mut q: u64 = 1;
-    for _i in 0..k {
-        q = (q * u64::from(b)).min(CAP);
-    }
-    q as u32
-}
 
 // Writes the digits of x in base b, the lowest first.
 pub(crate) fn write_digits(b: u32, x: u32, row: &mut [u16])
@@ -27,8 +12,8 @@ pub(crate) fn write_digits(b: u32, x: u32, row: &mut [u16])
     ensures { row.new ≡ digits b (length row.old) x }
 {
     let mut rest = x;
-    for i in 0..row.len() {
-        row[i] = (rest % b) as u16;
+    for d in row.iter_mut() {
+        *d = (rest % b) as u16;
         rest /= b;
     }
 }
@@ -48,8 +33,8 @@ pub(crate) fn number_of(b: u32, row: &[u16]) -> u16
     ensures { result ≡ from_digits b row.now }
 {
     let mut n = 0;
-    for i in (0..row.len()).rev() {
-        n = u32::from(row[i]) + b * n;
+    for d in row.iter().rev() {
+        n = u32::from(*d) + b * n;
     }
     n as u16
 }
@@ -60,8 +45,9 @@ pub(crate) fn add_row<R: Ring>(ring: &R, right: &[u16], row: &mut [u16])
     requires right { length right.now ≡ length row.old }
     ensures { IsRow row.new (length row.old) (λ i. (R.meaning ring.now).sum (slice_index row.old i) (slice_index right.now i)) }
 {
-    for i in (0..row.len()).rev() {
-        row[i] = ring.sum(row[i], right[i]);
+    // not by zip: nothing is known of a row after a loop over what zip lends of it
+    for (i, c) in row.iter_mut().enumerate() {
+        *c = ring.sum(*c, right[i]);
     }
 }
 
@@ -70,7 +56,17 @@ pub(crate) fn oppose_row<R: Ring>(ring: &R, row: &mut [u16])
     requires { R.made ring.now }
     ensures { IsRow row.new (length row.old) (λ i. (R.meaning ring.now).opposite (slice_index row.old i)) }
 {
-    for i in (0..row.len()).rev() {
-        row[i] = ring.opposite(row[i]);
+    for c in row.iter_mut() {
+        *c = ring.opposite(*c);
+    }
+}
+
+// Multiplies each code of a row by u.
+pub fn scale<R: Ring>(ring: &R, u: u16, row: &mut [u16])
+    requires { R.made ring.now }
+    ensures { IsRow row.new (length row.old) (λ i. (R.meaning ring.now).product u (slice_index row.old i)) }
+{
+    for c in row.iter_mut() {
+        *c = ring.product(u, *c);
     }
 }

@@ -55,7 +55,16 @@ fn invert(a: u8) -> Option<u8>
 // The symbol field. It holds nothing, as there is one only.
 #[derive(Clone, Copy)]
 pub struct SymbolField {
-    pub(crate) sealed: (),
+    sealed: (),
+}
+
+impl SymbolField {
+    // The field of order 256 of the CCSDS symbols.
+    pub fn new() -> SymbolField
+        ensures { ⟦<SymbolField as Ring>⟧.made result × (⟦<SymbolField as Ring>⟧.meaning result ≡ symbol_ring) × (⟦<SymbolField as Field>⟧.extras result ≡ symbol_extras) }
+    {
+        SymbolField { sealed: () }
+    }
 }
 
 impl Ring for SymbolField {
@@ -81,10 +90,10 @@ impl Ring for SymbolField {
     }
 
     fn product(&self, a: u16, b: u16) -> u16 {
-        if a >= ORDER || b >= ORDER {
+        let (Ok(a), Ok(b)) = (u8::try_from(a), u8::try_from(b)) else {
             return 0;
-        }
-        u16::from(multiply(a as u8, b as u8))
+        };
+        u16::from(multiply(a, b))
     }
 }
 
@@ -100,19 +109,7 @@ impl Field for SymbolField {
     }
 
     fn inverse(&self, a: u16) -> Option<u16> {
-        inverse_code(a)
-    }
-}
-
-// The inverse of a code, none for 0 and from 256 on.
-fn inverse_code(a: u16) -> Option<u16>
-    ensures { result ≡ symbol_extras.inverse a }
-{
-    if a >= ORDER {
-        return None;
-    }
-    match invert(a as u8) {
-        Some(b) => Some(u16::from(b)),
-        None => None,
+        let a = u8::try_from(a).ok()?;
+        invert(a).map(u16::from)
     }
 }

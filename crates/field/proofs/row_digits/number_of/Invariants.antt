@@ -1,6 +1,6 @@
-use Rattle.std.proofs.Common.{◌≡◌, drop}
+use Rattle.std.proofs.Common.{◌≡◌, ◌-◌, length, drop}
 use Rattle.field.specs.Quotient.{from_digits}
 use Rattle.field.proofs.row_digits.number_of.Given as goal
 
-abbrev pub invariant-loop-i : goal.invariant-loop-i
-invariant-loop-i l = l.n ≡ from_digits l.b (drop l.i l.row)
+abbrev pub invariant-loop-d : goal.invariant-loop-d
+invariant-loop-d l = l.n ≡ from_digits l.b (drop (length l.row - length l.yielded) l.row)

@@ -1,6 +1,6 @@
 use Rattle.std.proofs.Common.{get_or}
-use Rattle.field.proofs.RowSteps.{Partly}
+use Rattle.field.proofs.RowSteps.{Upward}
 use Rattle.field.proofs.row_digits.oppose_row.Given as goal
 
-abbrev pub invariant-loop-i : goal.invariant-loop-i
-invariant-loop-i g l = Partly l.initial.row l.row l.i (λ i. (g.R.Ring.meaning l.ring).opposite (get_or l.initial.row i 0))
+abbrev pub invariant-loop-c : goal.invariant-loop-c
+invariant-loop-c g l = Upward l.initial.row l.row l.c-index (λ i. (g.R.Ring.meaning l.ring).opposite (get_or l.initial.row i 0))

@@ -1,8 +1,9 @@
-use Rattle.std.proofs.Common.{◌≤◌, length, drop}
+use Rattle.std.proofs.Common.{◌-◌, ◌≤◌, length, drop}
 use Rattle.field.specs.Ring.{RingLaws}
 use Rattle.field.proofs.RowProducts.{Reduced}
 use Rattle.field.proofs.row_products.multiply_rows.Given as goal
 
--- the row is the product with the codes from place i on
-abbrev pub invariant-loop-i : goal.invariant-loop-i
-invariant-loop-i g l = (L : RingLaws (g.R.Ring.meaning l.ring)) (some : 1 ≤ length l.lower) → Reduced (g.R.Ring.meaning l.ring) L l.lower some (drop l.i l.left) l.right l.row
+-- the row is the product with the codes that were read
+abbrev pub invariant-loop-code : goal.invariant-loop-code
+invariant-loop-code g l =
+    (L : RingLaws (g.R.Ring.meaning l.ring)) (some : 1 ≤ length l.lower) → Reduced (g.R.Ring.meaning l.ring) L l.lower some (drop (length l.left - length l.yielded) l.left) l.right l.row
