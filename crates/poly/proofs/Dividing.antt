@@ -1,20 +1,27 @@
 -- Division of a row of codes from the top down, by a polynomial whose last code has an inverse: before each turn the codes from place n
 -- on are zero, and the quotient so far times the divisor, plus the row, is the dividend.
--- Main statements: Dividing, dividing_none, dividing_more, dividing_skip, dividing_all.
-use Rattle.std.proofs.Common.{◌≡◌, ℕ, ◌+◌, ◌-◌, ◌<◌, ◌≤◌, ◌≢◌, List, [], ◌∷◌, length, get_or, set, sym, refl, ap, ◌∙◌, subst, ap₂, arith}
+-- Main statements: zeros_at; Dividing, dividing_none, dividing_more, dividing_skip, dividing_all.
+use Rattle.std.proofs.Common.{◌≡◌, ℕ, ◌+◌, ◌-◌, ◌<◌, ◌≤◌, ◌≢◌, List, [], ◌∷◌, length, get_or, replicate, set, sym, refl, ap, ◌∙◌, subst, ap₂, arith}
 use native.Mathlib.Decide.{dec_lt, ℕ_discrete}
-use Rattle.std.proofs.lemmas.List.{get_or_past, get_or-set_same, get_or-set_other}
+use Rattle.std.proofs.lemmas.List.{get_or_past, get_or-replicate, length-replicate, get_or-set_same, get_or-set_other}
 use Rattle.algebra.specs.Ring.{Ring}
 use Rattle.algebra.proofs.Laws.{zero_⊕, zero_⊗}
 use Rattle.algebra.proofs.Solver.{◌:+◌, ◌:*◌, :neg, ring, A, B, C, D}
 use Rattle.algebra.proofs.Poly.{Polys}
 use Rattle.field.specs.Ring.{RingMeaning, RingLaws, one}
 use Rattle.field.specs.Polynomial.{coefficient, degree, leading, trimmed, or_zero, Canonical, IsDivision}
-use Rattle.field.specs.Rows.{IsRow, Written}
+use Rattle.field.specs.Rows.{Written}
 use Rattle.field.specs.Scalars.{CodeScalars, zero_is_code}
 use Rattle.field.specs.Polynomials.{P, Coded, code_at, poly_of}
 use Rattle.field.proofs.RowPolynomials.{poly_nothing, monomial, monomial_opposite, poly_added, poly_placed}
-use Rattle.field.proofs.Divisions.{rows_division, taken_away, unit_zero}
+use Rattle.field.proofs.Divisions.{rows_division, taken_away}
+
+-- a row of zeros
+pub zeros_at : (n i : ℕ) → get_or {A = ℕ} (replicate n 0) i 0 ≡ 0
+zeros_at n i = elim (dec_lt i n) [
+  | yes h ↦ get_or-replicate n i 0 0 h
+  | no h ↦ get_or_past (replicate n 0) i 0 (omega (arith, length-replicate {A = ℕ} n 0))
+]
 
 module _ (m : RingMeaning) (L : RingLaws m) where
   abbrev R : Ring (P m L)
@@ -28,42 +35,35 @@ module _ (m : RingMeaning) (L : RingLaws m) where
     pub quotient_starts : (i : ℕ) → i + degree g < n → get_or quotient i 0 ≡ 0
 
   -- nothing is divided yet
-  pub dividing_none : (f g quotient : List ℕ) → Coded m f → IsRow quotient (length f) (λ _. 0) → Dividing f g quotient f (length f)
-  dividing_none f g quotient c z = record {
-    quotient_codes = λ i. subst (λ (x : ℕ). x < m.order) (sym (zeros i (dec_lt i (length f)))) (zero_is_code m L);
+  pub dividing_none : (f g quotient : List ℕ) → Coded m f → ((i : ℕ) → get_or quotient i 0 ≡ 0) → Dividing f g quotient f (length f)
+  dividing_none f g quotient c zeros = record {
+    quotient_codes = λ i. subst (λ (x : ℕ). x < m.order) (sym (zeros i)) (zero_is_code m L);
     row_codes = c;
-    adds_up = sym (ap (λ (x : P m L). R.◌⊕◌ (R.◌⊗◌ x (poly_of m L g)) (poly_of m L f)) none ∙ ap (λ (x : P m L). R.◌⊕◌ x (poly_of m L f)) (zero_⊗ R _) ∙ zero_⊕ R _);
+    adds_up = sym (ap (λ (x : P m L). R.◌⊕◌ (R.◌⊗◌ x (poly_of m L g)) (poly_of m L f)) (poly_nothing m L quotient zeros) ∙ ap (λ (x : P m L). R.◌⊕◌ x (poly_of m L f)) (zero_⊗ R _) ∙ zero_⊕ R _);
     row_ends = λ i h. get_or_past f i 0 h;
-    quotient_starts = λ i h. zeros i (dec_lt i (length f));
+    quotient_starts = λ i h. zeros i;
+  }
+
+  -- the code at the top is zero
+  pub dividing_skip : (f g quotient row : List ℕ) (n : ℕ) → degree g < n → Dividing f g quotient row n → get_or row (n - 1) 0 ≡ 0 → Dividing f g quotient row (n - 1)
+  dividing_skip f g quotient row n above d z = record {
+    quotient_codes = d.quotient_codes;
+    row_codes = d.row_codes;
+    adds_up = d.adds_up;
+    row_ends = λ i h. ends i h (dec_lt i n);
+    quotient_starts = λ i h. d.quotient_starts i (omega arith);
   }
     where
-      zeros : (i : ℕ) → Dec (i < length f) → get_or quotient i 0 ≡ 0
-      zeros i (yes h) = z.at i h
-      zeros i (no h) = get_or_past quotient i 0 (omega (arith, z.sized))
-
-      none : poly_of m L quotient ≡ R.𝟘
-      none = poly_nothing m L quotient (λ i. zeros i (dec_lt i (length f)))
+      ends : (i : ℕ) → n - 1 ≤ i → Dec (i < n) → get_or row i 0 ≡ 0
+      ends i h (yes l) =
+          let e : i ≡ n - 1 = omega arith in
+          ap (λ (k : ℕ). get_or row k 0) e ∙ z
+      ends i h (no l) = d.row_ends i (omega arith)
 
   module _ (f g quotient row : List ℕ) (u n : ℕ) (cg : Canonical m g) (unit : m.product (leading g) u ≡ one m) (above : degree g < n)
       (d : Dividing f g quotient row n) where
     lead_code : leading g < m.order
     lead_code = code_at m L g cg (degree g)
-
-    -- the code at the top is zero
-    pub dividing_skip : m.product u (get_or row (n - 1) 0) ≡ 0 → Dividing f g quotient row (n - 1)
-    dividing_skip z = record {
-      quotient_codes = d.quotient_codes;
-      row_codes = d.row_codes;
-      adds_up = d.adds_up;
-      row_ends = λ i h. ends i h (dec_lt i n);
-      quotient_starts = λ i h. d.quotient_starts i (omega arith);
-    }
-      where
-        ends : (i : ℕ) → n - 1 ≤ i → Dec (i < n) → get_or row i 0 ≡ 0
-        ends i h (yes l) =
-            let e : i ≡ n - 1 = omega arith in
-            ap (λ (k : ℕ). get_or row k 0) e ∙ unit_zero m L (leading g) u (get_or row (n - 1) 0) lead_code (d.row_codes (n - 1)) unit z
-        ends i h (no l) = d.row_ends i (omega arith)
 
     -- a multiple of the divisor is taken away
     pub dividing_more : (c t : ℕ) (new : List ℕ) → n - 1 - degree g < length quotient → c ≡ m.product u (get_or row (n - 1) 0) → t ≡ m.opposite c →

@@ -1,6 +1,8 @@
+pub mod Trimming
 pub mod Operands
 pub mod Products
 pub mod Derivatives
+pub mod Values
 pub mod Results
 pub mod Dividing
 pub mod Once

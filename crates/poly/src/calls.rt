@@ -2,8 +2,9 @@ ghost use Rattle.std.specs.Prelude.{◌≡◌};
 ghost use Rattle.poly.specs.Calls.{Sums, Multiplies, Derives, evaluates, Division, Buffers, OneDivision, CommonDivisor, OneCommonDivisor};
 
 use crate::checks::check;
-use crate::division::{common_divisor, deliver_both, divide_row, padded};
-use crate::rows::{add_codes, deliver, derive_codes, evaluate, multiply_codes};
+use crate::delivery::{deliver, deliver_both};
+use crate::division::{Divisor, common_divisor};
+use crate::rows::{add_codes, derive_codes, evaluate, multiply_codes, padded};
 use crate::{MOST_CODES, PolyFault};
 use field::{Field, Ring};
 
@@ -61,6 +62,7 @@ pub fn value<R: Ring>(ring: &R, f: &[u16], x: u16) -> Result<u16, PolyFault>
 }
 
 // The quotient and the remainder of f by g, over a field: refused with 13 where g is the zero polynomial.
+#[tactic(auto, using(crate::proofs::Once::one_division, crate::proofs::Operands::taken_is_canonical))]
 pub fn divide<F: Field>(
     field: &F,
     f: &[u16],
@@ -74,19 +76,14 @@ pub fn divide<F: Field>(
 {
     check(field, f)?;
     check(field, g)?;
-    let Some(u) = field.inverse(g[g.len() - 1]) else {
-        return Err(PolyFault::ZeroDivisor);
-    };
-    let mut rests = [0u16; MOST_CODES];
-    let row = &mut rests[..f.len()];
-    row.copy_from_slice(f);
-    let mut quotients = [0u16; MOST_CODES];
-    let times = &mut quotients[..f.len()];
-    divide_row(field, g, u, row, times);
-    deliver_both(times, row, quotient, remainder)
+    let divisor = Divisor::new(field, g).ok_or(PolyFault::ZeroDivisor)?;
+    let mut rests = padded(f);
+    let quotients = divisor.divide(&mut rests);
+    deliver_both(&quotients, &rests, quotient, remainder)
 }
 
 // The greatest common divisor of f and g, over a field: monic, and zero for two zero polynomials.
+#[tactic(auto, using(crate::proofs::Once::one_common_divisor, crate::proofs::Operands::taken_is_canonical))]
 pub fn gcd<F: Field>(field: &F, f: &[u16], g: &[u16], out: &mut [u16]) -> Result<usize, PolyFault>
     requires { F.made field.now }
     ensures result { CommonDivisor (F.meaning field.now) f.now g.now out.old result out.new }
@@ -94,6 +91,5 @@ pub fn gcd<F: Field>(field: &F, f: &[u16], g: &[u16], out: &mut [u16]) -> Result
 {
     check(field, f)?;
     check(field, g)?;
-    let row = common_divisor(field, padded(f), padded(g));
-    deliver(&row, out)
+    deliver(&common_divisor(field, f, g), out)
 }

@@ -19,9 +19,8 @@ pub fn check<R: Ring>(ring: &R, f: &[u16]) -> Result<(), PolyFault>
             return Err(PolyFault::NotCode(i));
         }
     }
-    let last = f.len() - 1;
-    if last > 0 && f[last] == 0 {
-        return Err(PolyFault::LastZero(last));
+    if f.len() > 1 && f.last() == Some(&0) {
+        return Err(PolyFault::LastZero(f.len() - 1));
     }
     Ok(())
 }

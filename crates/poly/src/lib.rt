@@ -7,6 +7,7 @@
 
 mod calls;
 mod checks;
+mod delivery;
 mod division;
 mod fault;
 mod rows;

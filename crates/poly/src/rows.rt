@@ -1,17 +1,17 @@
-ghost use Rattle.std.specs.Prelude.{◌≡◌, ℕ, suc, ◌+◌, ◌-◌, ◌<◌, ◌≤◌, length, take, None, slice_index};
+ghost use Rattle.std.specs.Prelude.{◌≡◌, ℕ, suc, ◌+◌, ◌-◌, ◌<◌, ◌≤◌, length, slice_index};
 ghost use Rattle.field.specs.Ring.{total, multiple};
 ghost use Rattle.field.specs.Polynomial.{coefficient, value, trimmed, or_zero};
 ghost use Rattle.field.specs.Rows.{IsRow, Written};
-ghost use Rattle.poly.specs.Calls.{Writes};
+ghost use Rattle.poly.specs.Faults.{most_codes};
 
-use crate::PolyFault;
+use crate::MOST_CODES;
 use field::Ring;
 
 // The code at place i, or 0 past the end.
 fn code_at(f: &[u16], i: usize) -> u16
     ensures { result ≡ coefficient f.now i }
 {
-    if i < f.len() { f[i] } else { 0 }
+    f.get(i).copied().unwrap_or(0)
 }
 
 // Writes the codes of the sum of f and g into a row, as many as it has.
@@ -30,6 +30,7 @@ pub(crate) fn add_multiple<R: Ring>(ring: &R, t: u16, g: &[u16], place: usize, r
     requires fits { place + length g.now ≤ length row.old }
     ensures { Written row.old row.new place (length g.now) (λ i. (R.meaning ring.now).sum (slice_index row.old (place + i)) ((R.meaning ring.now).product t (coefficient g.now i))) }
 {
+    // by index: of a row that a zip writes through, only the length is known
     for (i, c) in g.iter().enumerate() {
         row[place + i] = ring.sum(row[place + i], ring.product(t, *c));
     }
@@ -77,35 +78,27 @@ pub(crate) fn evaluate<R: Ring>(ring: &R, f: &[u16], x: u16) -> u16
     ensures { result ≡ value (R.meaning ring.now) f.now x }
 {
     let mut sum = 0;
-    for i in (0..f.len()).rev() {
-        sum = ring.sum(f[i], ring.product(x, sum));
+    for c in f.iter().rev() {
+        sum = ring.sum(*c, ring.product(x, sum));
     }
     sum
 }
 
-// The length of a row without the zeros at its end, but at least 1.
-pub(crate) fn trimmed_length(row: &[u16]) -> usize
+// The polynomial of a row: without the zeros at its end, but with one code at least.
+pub(crate) fn polynomial_of(row: &[u16]) -> &[u16]
     requires { 0 < length row.now }
-    ensures some { 0 < result }
-    ensures within { result ≤ length row.now }
-    ensures form { take result row.now ≡ or_zero (trimmed row.now) }
+    ensures { result.now ≡ or_zero (trimmed row.now) }
 {
-    let mut n = row.len();
-    while n > 1 && row[n - 1] == 0 {
-        n -= 1;
-    }
-    n
+    let size = row.iter().rposition(|c| *c != 0).map_or(1, |i| i + 1);
+    &row[..size]
 }
 
-// Writes a row without the zeros at its end, but for one code, into a buffer from index 0 on, and answers its length.
-pub(crate) fn deliver(row: &[u16], out: &mut [u16]) -> Result<usize, PolyFault>
-    requires { 0 < length row.now }
-    ensures { Writes None (λ p. p ≡ or_zero (trimmed row.now)) out.old result out.new }
+// A row of f with zeros after it.
+pub(crate) fn padded(f: &[u16]) -> [u16; MOST_CODES]
+    requires { length f.now ≤ most_codes }
+    ensures { IsRow result most_codes (coefficient f.now) }
 {
-    let n = trimmed_length(row);
-    if out.len() < n {
-        return Err(PolyFault::Short);
-    }
-    out[..n].copy_from_slice(&row[..n]);
-    Ok(n)
+    let mut row = [0; MOST_CODES];
+    row[..f.len()].copy_from_slice(f);
+    row
 }

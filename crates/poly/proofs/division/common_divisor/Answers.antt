@@ -1,62 +1,36 @@
-use Rattle.std.proofs.Common.{◌≡◌, ℕ, ◌-◌, get_or, Option, sym, ap, ◌∙◌, arith}
-use Rattle.field.specs.Ring.{RingMeaning, RingLaws, one}
-use Rattle.field.proofs.Divisions.{inverse_none, inverse_nonzero, inverse_some}
-use Rattle.poly.proofs.Euclid.{reducing_none, reducing_more, reducing_less, reducing_all, first_canonical, first_last}
+use Rattle.std.proofs.Common.{◌<◌, List, ℕ, sym, ◌∙◌, subst}
+use Rattle.field.specs.Ring.{RingMeaning}
+use Rattle.field.specs.Polynomial.{trimmed, or_zero, Canonical, IsDivision}
+use Rattle.poly.proofs.Euclid.{size_of, same_division, reducing_none, reducing_more, reducing_less, divisor_canonical}
+use Rattle.poly.proofs.division.common_divisor.Given as given
 use Rattle.poly.proofs.division.common_divisor.Goals as goal
 
-pub loop-u-init : goal.loop-u-init
-loop-u-init g c =
-    let m : RingMeaning = g.F.Ring.meaning c.args.field.now in
-    let L : RingLaws m = g.met.F.Ring.ring c.args.field.now c.requires.made in
-    reducing_none m L c.args.left c.args.right c.trimmed_length-n.result (omega arith) (omega arith) c.requires.first c.requires.second
-    c.trimmed_length-n.ensures.some c.trimmed_length-n.ensures.within c.trimmed_length-n.ensures.form
+pub loop-d-init : goal.loop-d-init
+loop-d-init g c =
+    reducing_none (g.F.Ring.meaning c.args.field.now) (g.met.F.Ring.ring c.args.field.now c.requires.made) c.args.f.now c.args.g.now
+    c.padded-dividend.result c.padded-divisor.result c.requires.first c.requires.second c.padded-dividend.ensures c.padded-divisor.ensures
 
-pub reduce-requires : goal.reduce-requires
-reduce-requires g c =
+pub new-requires-clause-canonical : goal.new-requires-clause-canonical
+new-requires-clause-canonical g c =
     let m : RingMeaning = g.F.Ring.meaning c.args.field.now in
-    let L : RingLaws m = g.met.F.Ring.ring c.args.field.now c.requires.made in
-    let inverse : ℕ → Option ℕ = (g.F.Field.extras c.args.field.now).inverse in
-    let last : ℕ = get_or c.loop-u.divisor (c.loop-u.n - 1) 0 in
-    let unit : m.product last c.in-Some.u ≡ one m = inverse_some m inverse c.inverse.ensures.laws last (c.loop-u.invariant.divisor_codes (c.loop-u.n - 1)) c.in-Some.u (sym {b = inverse last} c.in-Some.ensures.value) in
-    record {
-      made = c.requires.made;
-      divisor = first_canonical m L c.args.left c.args.right c.loop-u.dividend c.loop-u.divisor c.loop-u.n c.loop-u.invariant;
-      inverse = ap (λ (x : ℕ). m.product x c.in-Some.u) (first_last m L c.args.left c.args.right c.loop-u.dividend c.loop-u.divisor c.loop-u.n c.loop-u.invariant) ∙ unit;
-      codes = c.loop-u.invariant.dividend_codes;
-      short = omega arith;
-    }
+    subst (Canonical m) (sym c.polynomial_of.ensures)
+    (divisor_canonical m (g.met.F.Ring.ring c.args.field.now c.requires.made) c.args.f.now c.args.g.now c.loop-d.dividend c.loop-d.divisor c.loop-d.invariant)
 
-pub loop-u-smaller : goal.loop-u-smaller
-loop-u-smaller g c =
-    let m : RingMeaning = g.F.Ring.meaning c.args.field.now in
-    let L : RingLaws m = g.met.F.Ring.ring c.args.field.now c.requires.made in
-    let inverse : ℕ → Option ℕ = (g.F.Field.extras c.args.field.now).inverse in
-    let last : ℕ = get_or c.loop-u.divisor (c.loop-u.n - 1) 0 in
-    reducing_less m L c.args.left c.args.right c.loop-u.dividend c.loop-u.divisor c.loop-u.n c.loop-u.invariant
-    c.reduce.new.row c.reduce.ensures.0 c.trimmed_length-n-in-Some.result (omega arith)
-    c.trimmed_length-n-in-Some.ensures.some c.trimmed_length-n-in-Some.ensures.within c.trimmed_length-n-in-Some.ensures.form c.reduce.ensures.1
-    (inverse_nonzero m inverse c.inverse.ensures.laws last (c.loop-u.invariant.divisor_codes (c.loop-u.n - 1)) c.in-Some.u (sym {b = inverse last} c.in-Some.ensures.value))
+-- the turn's division
+divided : (g : given.Over) (c : goal.After-swap g) → IsDivision (g.F.Ring.meaning c.args.field.now) (or_zero (trimmed c.loop-d.dividend)) (or_zero (trimmed c.loop-d.divisor)) (or_zero (trimmed c.divide.result)) (or_zero (trimmed c.divide.new.row))
+divided g c =
+    let d = c.in-Some.d in
+    same_division g.F.Ring.meaning d.field.now c.args.field.now c.in-Some.ensures.some.0 d.codes.now (or_zero (trimmed c.loop-d.divisor)) (c.in-Some.ensures.some.1 ∙ c.polynomial_of.ensures)
+    (or_zero (trimmed c.loop-d.dividend)) (or_zero (trimmed c.divide.result)) (or_zero (trimmed c.divide.new.row)) c.divide.ensures
 
-pub loop-u-preserved : goal.loop-u-preserved
-loop-u-preserved g c =
-    let m : RingMeaning = g.F.Ring.meaning c.args.field.now in
-    let L : RingLaws m = g.met.F.Ring.ring c.args.field.now c.requires.made in
-    reducing_more m L c.args.left c.args.right c.loop-u.dividend c.loop-u.divisor c.loop-u.n c.loop-u.invariant
-    c.reduce.new.row c.reduce.ensures.0 c.trimmed_length-n-in-Some.result (omega arith)
-    c.trimmed_length-n-in-Some.ensures.some c.trimmed_length-n-in-Some.ensures.within c.trimmed_length-n-in-Some.ensures.form c.reduce.ensures.1
+pub loop-d-smaller : goal.loop-d-smaller
+loop-d-smaller g c =
+    subst (λ (y : List ℕ). size_of (or_zero (trimmed y)) < size_of (or_zero (trimmed c.loop-d.divisor))) (sym c.swap.ensures.y_after)
+    (reducing_less (g.F.Ring.meaning c.args.field.now) (g.met.F.Ring.ring c.args.field.now c.requires.made) c.args.f.now c.args.g.now c.loop-d.dividend c.loop-d.divisor c.loop-d.invariant
+    c.divide.new.row (or_zero (trimmed c.divide.result)) c.divide.auto.row (divided g c) (λ z. c.in-Some.ensures.some.2 (c.polynomial_of.ensures ∙ z)))
 
-pub make_monic-requires : goal.make_monic-requires
-make_monic-requires g c = record { made = c.requires.made; some = omega arith; codes = c.loop-u.invariant.dividend_codes }
-
-pub returns : goal.returns
-returns g c =
-    let m : RingMeaning = g.F.Ring.meaning c.args.field.now in
-    let L : RingLaws m = g.met.F.Ring.ring c.args.field.now c.requires.made in
-    let inverse : ℕ → Option ℕ = (g.F.Field.extras c.args.field.now).inverse in
-    let last : ℕ = get_or c.loop-u.divisor (c.loop-u.n - 1) 0 in
-    record {
-      size = omega arith;
-      divisor = reducing_all m L c.args.left c.args.right c.loop-u.dividend c.loop-u.divisor c.loop-u.n c.loop-u.invariant _
-          (inverse_none m inverse c.inverse.ensures.laws last (c.loop-u.invariant.divisor_codes (c.loop-u.n - 1)) (sym {b = inverse last} c.in_default.ensures.value))
-          c.make_monic.ensures;
-    }
+pub loop-d-preserved : goal.loop-d-preserved
+loop-d-preserved g c =
+    rw (c.swap.ensures.x_after, c.swap.ensures.y_after)
+    (reducing_more (g.F.Ring.meaning c.args.field.now) (g.met.F.Ring.ring c.args.field.now c.requires.made) c.args.f.now c.args.g.now c.loop-d.dividend c.loop-d.divisor c.loop-d.invariant
+    c.divide.new.row (or_zero (trimmed c.divide.result)) c.divide.auto.row (divided g c))

@@ -1,6 +1,6 @@
-use Rattle.std.proofs.Common.{◌≡◌, drop}
-use Rattle.field.specs.Polynomial.{value}
+use Rattle.std.proofs.Common.{◌≡◌, length}
+use Rattle.poly.proofs.Values.{value_from}
 use Rattle.poly.proofs.rows.evaluate.Given as goal
 
-abbrev pub invariant-loop-i : goal.invariant-loop-i
-invariant-loop-i g l = l.sum ≡ value (g.R.Ring.meaning l.ring) (drop l.i l.f) l.x
+abbrev pub invariant-loop-c : goal.invariant-loop-c
+invariant-loop-c g l = l.sum ≡ value_from (g.R.Ring.meaning l.ring) l.f l.x (length l.yielded)

@@ -2,7 +2,7 @@ use Rattle.std.proofs.Common.{ℕ, List, ◌++◌, length, drop, replicate, sym,
 use Rattle.field.specs.Polynomial.{coefficient}
 use Rattle.field.specs.Rows.{IsRow}
 use Rattle.poly.proofs.Euclid.{padded_row}
-use Rattle.poly.proofs.division.padded.Goals as goal
+use Rattle.poly.proofs.rows.padded.Goals as goal
 
 pub returns : goal.returns
 returns c =
