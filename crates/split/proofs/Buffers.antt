@@ -1,15 +1,13 @@
 -- A polynomial in a buffer from index 0 on.
--- Main statements: written_length, written_front, front_written, copied_front, holds_part, wiped_same.
-use Rattle.std.proofs.Common.{◌≡◌, ℕ, ◌+◌, ◌-◌, ◌<◌, ◌≤◌, List, ◌++◌, length, get_or, take, drop, replicate, sym, refl, ap, ◌∙◌, ap₂, ⊎_elim, zero-add, arith}
+-- Main statements: written_front, front_written, wiped_same.
+use Rattle.std.proofs.Common.{◌≡◌, ℕ, ◌+◌, ◌-◌, ◌<◌, ◌≤◌, List, ◌++◌, length, get_or, take, drop, replicate, sym, refl, ap, ◌∙◌, ⊎_elim, zero-add, arith}
 use Rattle.std.proofs.lemmas.List.{ext_get_or, length-append, length-drop, get_or_append_left, get_or-append_right, get_or-drop, take_at}
 use Rattle.std.proofs.lemmas.Bool.{cases_lt}
 use Rattle.field.specs.Rows.{Written}
-use borrow.Rule.Slice.PartMut.{post_of}
 use Rattle.poly.specs.Calls.{written}
 use Rattle.split.specs.Splitting.{wiped}
-use Rattle.split.specs.Calls.{Holds}
 
-pub written_length : (r old : List ℕ) → length r ≤ length old → length (written r old) ≡ length old
+written_length : (r old : List ℕ) → length r ≤ length old → length (written r old) ≡ length old
 written_length r old h = length-append r (drop (length r) old) ∙ let e = length-drop (length r) old in omega arith
 
 pub written_front : (r old : List ℕ) → take (length r) (written r old) ≡ r
@@ -28,14 +26,6 @@ front_written r old new n same fits long w = ext_get_or 0 new (written r old) (s
         let s : length r + (i - length r) ≡ i = omega arith in
         w.after i (omega arith) ∙ sym (get_or-append_right r (drop (length r) old) (length r) i 0 refl k ∙ get_or-drop (length r) old (i - length r) 0 ∙ ap (λ (x : ℕ). get_or old x 0) s))
         (cases_lt i (length r))
-
--- what a copy to the front of a buffer leaves
-pub copied_front : (g' g buffer : List ℕ) → g' ≡ g → g' ++ post_of 0 (length g - 0) buffer ≡ written g buffer
-copied_front g' g buffer e = let s : length g - 0 ≡ length g = omega arith in ap₂ (λ (xs : List ℕ) (n : ℕ). xs ++ post_of 0 n buffer) e s
-
--- the part of a buffer that holds a polynomial
-pub holds_part : (p buffer : List ℕ) (n : ℕ) → Holds p n buffer → take (n - 0) buffer ≡ p
-holds_part p buffer n w = let s : n - 0 ≡ n = omega arith in ap (λ (k : ℕ). take k buffer) s ∙ w.codes
 
 -- what is zeroed does not matter
 pub wiped_same : (n : ℕ) (old new : List ℕ) → length new ≡ length old → ((k : ℕ) → n ≤ k → get_or new k 0 ≡ get_or old k 0) → wiped n new ≡ wiped n old

@@ -1,20 +1,33 @@
 -- Combinations of codes are combinations of scalars, so that what is proved over any ring can be said of codes.
--- Main statements: less_is, less_zero, less_self, less_equal; combined_is, combined_same, combined_less, combined_scale, combined_unit,
+-- Main statements: less_zero, less_self, less_equal; combined_is, combined_same, combined_less, combined_scale, combined_unit,
 -- combined_longer.
-use Rattle.std.proofs.Common.{◌≡◌, ℕ, zero, suc, ◌+◌, ◌<◌, ◌≤◌, [], ◌∷◌, sym, refl, ap, ◌∙◌, ap₂, ⊎_elim, arith}
+use Rattle.std.proofs.Common.{◌≡◌, ℕ, suc, ◌+◌, ◌-◌, ◌<◌, ◌≤◌, List, [], ◌∷◌, length, get_or, sym, refl, ap, ◌∙◌, ap₂, ⊎_elim, add-one, arith}
 use Rattle.std.proofs.lemmas.Bool.{cases_eq}
 use Rattle.algebra.specs.Ring.{Ring}
 use Rattle.algebra.proofs.Laws.{zero_⊗, eq_of_diff}
 use Rattle.algebra.proofs.Solver.{:0, :1, ◌:+◌, ◌:*◌, :neg, ring, A, B}
 use Rattle.algebra.proofs.Echelon.{total_longer, dot, dot_same, dot_less, dot_scale, dot_unit}
-use Rattle.field.specs.Ring.{RingMeaning, RingLaws, one, total}
+use Rattle.field.specs.Ring.{RingMeaning, RingLaws, one}
+use Rattle.field.specs.Rows.{IsRow}
+use Rattle.field.proofs.Totals.{total_none, total_more, total_same}
 use Rattle.field.specs.Scalars.{Code, CodeRing, code_path, zero_code, unit_code, sum_codes, opposite_codes, product_codes, total_codes, scalar, scalar_value, scalar_zero, scalar_one, scalar_product}
 use Rattle.split.specs.Matrix.{combined}
 use Rattle.split.specs.Echelon.{less}
 
--- x - t y, from the answers for the product, the opposite and the sum
-pub less_is : (m : RingMeaning) (t x y : ℕ) {s o p x' y' : ℕ} → s ≡ m.sum x o → o ≡ m.opposite p → p ≡ m.product t y → x ≡ x' → y ≡ y' → s ≡ less m t x' y'
-less_is m t x y a b c e f = a ∙ ap (m.sum x) (b ∙ ap m.opposite c) ∙ ap₂ (less m t) e f
+-- no term, and one term more
+pub combined_none : (m : RingMeaning) (c v : ℕ → ℕ) → 0 ≡ combined m 0 c v
+combined_none m c v = sym (total_none m (λ j. m.product (c (suc j)) (v (suc j))))
+
+pub combined_more : (m : RingMeaning) (n : ℕ) (c v : ℕ → ℕ) {s t p x y : ℕ} → t ≡ m.sum s p → s ≡ combined m n c v → p ≡ m.product x y → x ≡ c (1 + n) → y ≡ v (1 + n) → t ≡ combined m (n + 1) c v
+combined_more m n c v a b e h k =
+    let s : 1 + n ≡ suc n = omega arith in
+    a ∙ ap₂ m.sum b (e ∙ ap₂ m.product (h ∙ ap c s) (k ∙ ap v s)) ∙ sym (total_more m n (λ j. m.product (c (suc j)) (v (suc j)))) ∙ ap (λ (i : ℕ). combined m i c v) (sym (add-one n))
+
+-- the coefficients of a combination, from a row of them
+pub combined_of_row : (m : RingMeaning) (e : ℕ) (row : List ℕ) (c v : ℕ → ℕ) → IsRow row (suc e) c → combined m (length row - 1) (λ i. get_or row i 0) v ≡ combined m e c v
+combined_of_row m e row c v is =
+    let s : length row - 1 ≡ e = omega (arith, is.sized) in
+    ap (λ (n : ℕ). combined m n (λ i. get_or row i 0) v) s ∙ total_same m e _ _ (λ j h. ap (λ (x : ℕ). m.product x (v (suc j))) (is.at (suc j) (omega arith)))
 
 module _ (m : RingMeaning) (L : RingLaws m) where
   -- the scalar of f j at j
@@ -61,15 +74,10 @@ module _ (m : RingMeaning) (L : RingLaws m) where
 
   -- combinations
 
-  total_same : (n : ℕ) (f g : ℕ → ℕ) → ((j : ℕ) → j < n → f j ≡ g j) → total m n f ≡ total m n g
-  unfolding total
-  total_same zero f g e = refl
-  total_same (suc n) f g e = ap₂ m.sum (total_same n f g (λ j h. e j (omega arith))) (e n (omega arith))
-
   pub combined_is : (n : ℕ) (c v : ℕ → ℕ) → CodesTo n c → CodesTo n v → (dot R n (scalars c) (scalars v)).0 ≡ combined m n c v
   combined_is n c v hc hv =
       total_codes m L n _
-      ∙ total_same n _ _ (λ j h. product_codes m L _ _
+      ∙ total_same m n _ _ (λ j h. product_codes m L _ _
       ∙ ap₂ m.product (scalar_value m L (c (suc j)) (hc (suc j) (omega arith) (omega arith))) (scalar_value m L (v (suc j)) (hv (suc j) (omega arith) (omega arith))))
 
   -- the same, of scalars
@@ -77,11 +85,11 @@ module _ (m : RingMeaning) (L : RingLaws m) where
   combined_scalar n c v hc hv e = code_path m L (combined_is n c v hc hv ∙ e ∙ sym (zero_code m L))
 
   pub combined_same : (n : ℕ) (c b v : ℕ → ℕ) → ((j : ℕ) → 1 ≤ j → j ≤ n → c j ≡ b j) → combined m n c v ≡ combined m n b v
-  combined_same n c b v e = total_same n _ _ (λ j h. ap (λ (x : ℕ). m.product x (v (suc j))) (e (suc j) (omega arith) (omega arith)))
+  combined_same n c b v e = total_same m n _ _ (λ j h. ap (λ (x : ℕ). m.product x (v (suc j))) (e (suc j) (omega arith) (omega arith)))
 
   -- over other rows that are the same
   pub combined_rows : (n : ℕ) (c v w : ℕ → ℕ) → ((j : ℕ) → 1 ≤ j → j ≤ n → v j ≡ w j) → combined m n c v ≡ combined m n c w
-  combined_rows n c v w e = total_same n _ _ (λ j h. ap (m.product (c (suc j))) (e (suc j) (omega arith) (omega arith)))
+  combined_rows n c v w e = total_same m n _ _ (λ j h. ap (m.product (c (suc j))) (e (suc j) (omega arith) (omega arith)))
 
   pub combined_less : (n t : ℕ) (c b v : ℕ → ℕ) → t < m.order → CodesTo n c → CodesTo n b → CodesTo n v
       → combined m n (λ j. less m t (c j) (b j)) v ≡ less m t (combined m n c v) (combined m n b v)

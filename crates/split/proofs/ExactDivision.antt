@@ -1,6 +1,6 @@
 -- Division of a polynomial by one of its divisors, and how long a divisor is.
--- Main statements: divisor_short, divisor_leads, exact_quotient, exact_rest.
-use Rattle.std.proofs.Common.{◌≡◌, ℕ, zero, suc, ◌<◌, ◌≤◌, ◌≢◌, List, length, sym, refl, ap, ◌∙◌, arith}
+-- Main statements: divisor_short, divided, cofactor_read.
+use Rattle.std.proofs.Common.{◌≡◌, ℕ, zero, suc, ◌<◌, ◌≤◌, ◌≢◌, List, length, take, None, Ok, Result, IsOk, sym, refl, ap, ◌∙◌, arith}
 use native.Mathlib.Decide.{dec_lt}
 use lib.ListN.{get_or-eq_default}
 use Rattle.algebra.specs.Ring.{Ring}
@@ -13,7 +13,12 @@ use Rattle.field.specs.Scalars.{CodeScalars}
 use Rattle.field.specs.Polynomials.{P, poly_of, canonical_unique, positive_size, poly_product, poly_zero, zero_canonical}
 use Rattle.field.proofs.Factors.{product_degree}
 use Rattle.field.proofs.Divisions.{division_from, division_unique}
+use Rattle.poly.specs.declared.fault.PolyFault.{PolyFault}
+use Rattle.poly.specs.Faults.{most_codes, division_refusal}
+use Rattle.poly.specs.Calls.{Buffers, Division}
+use Rattle.poly.proofs.Operands.{canonical_is_taken, divisor_taken}
 use Rattle.split.specs.Calls.{Taken}
+use Rattle.split.proofs.Unrefused.{both_ok, read_quotient}
 
 module _ (F : FieldMeaning) (L : FieldLaws F) (f g : List ℕ) (t : Taken F.ring f) (cg : Canonical F.ring g) (d : Divides F.ring g f) where
   abbrev m : RingMeaning
@@ -41,7 +46,7 @@ module _ (F : FieldMeaning) (L : FieldLaws F) (f g : List ℕ) (t : Taken F.ring
   not_zero : g ≡ zero_polynomial → ⊥
   not_zero e = absurd (omega (arith, some_size, ap (λ (x : List ℕ). size (poly x)) e ∙ ap size (poly_zero m L.ring) ∙ zero_size (CodeScalars m L.ring)))
 
-  pub divisor_leads : leading g ≢ 0
+  divisor_leads : leading g ≢ 0
   divisor_leads z = elim (dec_lt 1 (length g)) [
     | yes h ↦ cg.leads h z
     | no h ↦ not_zero (canonical_unique m g zero_polynomial cg (zero_canonical m L.ring) (at h))
@@ -66,11 +71,25 @@ module _ (F : FieldMeaning) (L : FieldLaws F) (f g : List ℕ) (t : Taken F.ring
     same : (q ≡ d.quotient) × (r ≡ zero_polynomial)
     same = division_unique F L f g q r d.quotient zero_polynomial cg not_zero w exact
 
-    pub exact_quotient : product m g q ≡ f
+    exact_quotient : product m g q ≡ f
     exact_quotient = ap (product m g) same.0 ∙ d.multiplies
 
-    pub exact_short : length q ≤ length f
+    exact_short : length q ≤ length f
     exact_short = degrees q w.quotient_canonical exact_quotient
 
-    pub exact_rest : length r ≡ 1
+    exact_rest : length r ≡ 1
     exact_rest = ap length same.1
+
+  unrefused : division_refusal m f g ≡ None
+  unrefused = divisor_taken m f g (canonical_is_taken m f t.canonical t.short) (canonical_is_taken m g cg (omega (arith, divisor_short, t.short))) divisor_leads
+
+  -- the call that divides, where both buffers have room
+  module _ (before after : Buffers) (call : Result (ℕ × ℕ) PolyFault) (w : Division m f g before call after) where
+    pub divided : most_codes ≤ length before.quotient → 0 < length before.remainder → IsOk call
+    divided room some = both_ok (division_refusal m f g) unrefused (IsDivision m f g) before after call
+        (λ q r k. (omega (arith, exact_short q r k, t.short), omega (arith, exact_rest q r k))) w
+
+    pub cofactor_read : (n : ℕ × ℕ) → call ≡ Ok n → (p : List ℕ) → p ≡ take n.0 after.quotient → Canonical m p × (product m g p ≡ f)
+    cofactor_read n e p q =
+        let k = read_quotient (division_refusal m f g) unrefused (IsDivision m f g) before after call n e w p q in
+        (k.1.quotient_canonical, exact_quotient p k.0 k.1)

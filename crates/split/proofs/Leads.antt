@@ -1,8 +1,8 @@
 -- The pivot of a row: the first column at which it is not zero.
 -- Main statements: lead_is, lead_same, row_first.
-use Rattle.std.proofs.Common.{◌≡◌, ℕ, zero, suc, ◌+◌, ◌-◌, ◌*◌, ◌<◌, ◌≤◌, cond, eqb, List, length, get_or, take, drop, sym, refl, ap, ◌∙◌, subst, ap₂, add-mul, arith}
-use Rattle.std.proofs.lemmas.List.{get_or-take, get_or-drop, length-take, length-drop}
+use Rattle.std.proofs.Common.{◌≡◌, ℕ, zero, suc, ◌<◌, ◌≤◌, cond, eqb, List, sym, refl, ap, ◌∙◌, ap₂, arith}
 use Rattle.std.proofs.lemmas.Bool.{cond-true, cond-false, eq-eqb, ne_eqb}
+use Rattle.field.specs.Rows.{IsRow}
 use Rattle.split.specs.Matrix.{cell}
 use Rattle.split.specs.Echelon.{First, pivot_of, lead}
 
@@ -28,14 +28,10 @@ pub record RowFirst (codes : List ℕ) (d r q : ℕ) : Type 0 where
   pub before : (k : ℕ) → k < q → cell codes d r k ≡ 0
   pub here : q < d → cell codes d r q ≡ 0 → ⊥
 
--- a search in the part of the codes that is row r
-pub row_first : (codes : List ℕ) (d r q : ℕ) → r * d + d ≤ length codes → First (take ((r + 1) * d - r * d) (drop (r * d) codes)) q → RowFirst codes d r q
-row_first codes d r q fits f =
-    let size : (r + 1) * d - r * d ≡ d = omega (arith, add-mul r 1 d) in
-    let f' : First (take d (drop (r * d) codes)) q = subst (λ (n : ℕ). First (take n (drop (r * d) codes)) q) size f in
-    let long : length (take d (drop (r * d) codes)) ≡ d = simp (length-take, length-drop) (omega arith) in
-    let read : (k : ℕ) → k < d → get_or (take d (drop (r * d) codes)) k 0 ≡ cell codes d r k = λ k h. get_or-take d (drop (r * d) codes) k 0 h ∙ get_or-drop (r * d) codes k 0 in
-    let within : q ≤ d = omega (arith, f'.within) in
-    let before : (k : ℕ) → k < q → cell codes d r k ≡ 0 = λ k h. sym (read k (omega arith)) ∙ f'.before k h in
-    let here : q < d → cell codes d r q ≡ 0 → ⊥ = λ h z. f'.here (omega arith) (read q h ∙ z) in
+-- a search in row r
+pub row_first : (codes row : List ℕ) (d r q : ℕ) → IsRow row d (cell codes d r) → First row q → RowFirst codes d r q
+row_first codes row d r q is f =
+    let within : q ≤ d = omega (arith, f.within, is.sized) in
+    let before : (k : ℕ) → k < q → cell codes d r k ≡ 0 = λ k h. sym (is.at k (omega arith)) ∙ f.before k h in
+    let here : q < d → cell codes d r q ≡ 0 → ⊥ = λ h z. f.here (omega (arith, is.sized)) (is.at q h ∙ z) in
     record { is_pivot = sym (lead_is d q (cell codes d r) within before here); within = within; before = before; here = here }

@@ -1,5 +1,6 @@
 -- Elimination in a scratch of codes: where rows lie, what a step leaves as it was, what it keeps true
 pub mod Rows
+pub mod Parts
 pub mod Leads
 pub mod Frames
 pub mod Carrier
@@ -14,8 +15,6 @@ pub mod OneSplitting
 pub mod Modulo
 pub mod FixedByRows
 pub mod WholeSplitting
--- Powers of codes
-pub mod Powers
 -- Results in buffers, kind by kind
 pub mod Buffers
 pub mod RootKind

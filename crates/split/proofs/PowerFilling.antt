@@ -1,10 +1,10 @@
 -- The powers of Q modulo f in the matrix, written one after the other.
--- Main statements: power_none_of, power_next_of; power_put_codes, power_put_rows, power_put_past, constants_coded.
-use Rattle.std.proofs.Common.{◌≡◌, ℕ, zero, suc, ◌+◌, ◌-◌, ◌*◌, ◌<◌, ◌≤◌, cond, eqb, ◌≢◌, List, length, get_or, set, sym, ap, ◌∙◌, subst, ap₂, inr, ⊎_elim, add-mul, add-one, arith}
+-- Main statements: power_none_of, power_next_of; power_put_rows, constants_coded.
+use Rattle.std.proofs.Common.{◌≡◌, ℕ, zero, suc, ◌+◌, ◌*◌, ◌<◌, ◌≤◌, cond, eqb, ◌≢◌, List, length, set, sym, ap, ◌∙◌, subst, ap₂, ⊎_elim, add-one, arith}
 use native.Mathlib.Decide.{dec_lt}
 use lib.ListN.{get_or-eq_default}
 use Rattle.std.proofs.lemmas.List.{get_or-set_same, get_or-set_other}
-use Rattle.std.proofs.lemmas.Bool.{cases_lt, cases_eq, cond-true, cond-false, eq-eqb, ne_eqb}
+use Rattle.std.proofs.lemmas.Bool.{cases_eq, cond-false, ne_eqb}
 use Rattle.algebra.proofs.Laws.{mul_comm}
 use Rattle.algebra.proofs.Poly.{Polys}
 use Rattle.field.specs.Ring.{RingMeaning, RingLaws}
@@ -13,16 +13,21 @@ use Rattle.field.specs.Rows.{Written}
 use Rattle.field.specs.Coefficients.{polynomial_at, polynomial_beyond}
 use Rattle.field.specs.Scalars.{CodeScalars, zero_is_code}
 use Rattle.field.specs.Polynomials.{code_at, poly_of_injective, poly_product, product_canonical, power_canonical}
-use Rattle.field.proofs.Writing.{written_outside}
-use Rattle.split.specs.Matrix.{cell, Codes}
+use Rattle.split.specs.Matrix.{cell}
 use Rattle.split.specs.Calls.{Taken}
-use Rattle.split.specs.FixedRows.{EqualModulo, RowBelow, Residue, PowerRow}
-use Rattle.split.specs.Sieve.{restored, bare}
-use Rattle.split.proofs.Rows.{row_end}
+use Rattle.split.specs.FixedRows.{EqualModulo, RowBelow, Residue, PowerRow, changed_at}
+use Rattle.split.specs.Sieve.{restored}
 use Rattle.split.proofs.Frames.{written_row}
 use Rattle.split.proofs.Modulo.{modulo_same, modulo_trans}
 use Rattle.split.proofs.Residues.{residue_product}
 use Rattle.split.proofs.MatrixRows.{polynomial_same}
+
+-- all constants are codes, and what is read past them
+pub constants_all : (m : RingMeaning) (L : RingLaws m) (constants : List ℕ) (n : ℕ) → length constants ≤ n → ((i : ℕ) → i < n → coefficient constants i < m.order) → (i : ℕ) → coefficient constants i < m.order
+constants_all m L constants n h codes i = elim (dec_lt i n) [
+  | yes l ↦ codes i l
+  | no l ↦ subst (λ (x : ℕ). x < m.order) (sym (get_or-eq_default constants 0 (omega arith))) (zero_is_code m L)
+]
 
 module _ (m : RingMeaning) (L : RingLaws m) (f : List ℕ) (t : Taken m f) where
   -- the zeroth power of any polynomial
@@ -42,35 +47,18 @@ module _ (m : RingMeaning) (L : RingLaws m) (f : List ℕ) (t : Taken m f) where
       swapped = poly_of_injective m L _ _ (product_canonical m L _ _) (product_canonical m L _ _)
           (poly_product m L _ q (power_canonical m L q j) c ∙ mul_comm (Polys (CodeScalars m L)) _ _ ∙ sym (poly_product m L q _ c (power_canonical m L q j)))
 
-  module _ (j : ℕ) (high : j < degree f) (row constants old new : List ℕ) (w : RowBelow m f row) (room : degree f ≤ length constants) (put : Written old new (j * degree f) (degree f) (bare row)) where
+  module _ (j : ℕ) (high : j < degree f) (row constants old new : List ℕ) (w : RowBelow m f row) (room : degree f ≤ length constants) (put : Written old new (j * degree f) (degree f) (changed_at row 0 0)) where
     abbrev d : ℕ
     d = degree f
 
     abbrev constants' : List ℕ
     constants' = set constants j (coefficient row 0)
 
-    bare_code : (i : ℕ) → bare row i < m.order
-    bare_code i =
-        ⊎_elim
-        (λ (e : i ≡ 0). subst (λ (x : ℕ). x < m.order) (sym (cond-true (eqb i 0) _ _ (eq-eqb i 0 e))) (zero_is_code m L))
-        (λ (n : i ≡ 0 → ⊥). subst (λ (x : ℕ). x < m.order) (sym (cond-false (eqb i 0) _ _ (ne_eqb i 0 n))) (w.codes i))
-        (cases_eq i 0)
-
-    pub power_put_codes : Codes m (j * d) old → Codes m ((j + 1) * d) new
-    power_put_codes b k h =
-        ⊎_elim
-        (λ (l : k < j * d). subst (λ (x : ℕ). x < m.order) (sym (put.before k l)) (b k l))
-        (λ (l : j * d ≤ k).
-        let s : j * d + (k - j * d) ≡ k = omega arith in
-        let i : k - j * d < d = omega (arith, add-mul j 1 d) in
-        subst (λ (x : ℕ). x < m.order) (sym (ap (λ (x : ℕ). get_or new x 0) (sym s) ∙ put.inside (k - j * d) i)) (bare_code (k - j * d)))
-        (cases_lt k (j * d))
-
-    pub constants_coded : ((i : ℕ) → coefficient constants i < m.order) → (i : ℕ) → coefficient constants' i < m.order
-    constants_coded h i =
+    pub constants_coded : ((i : ℕ) → i < j → coefficient constants i < m.order) → (i : ℕ) → i < j + 1 → coefficient constants' i < m.order
+    constants_coded h i l =
         ⊎_elim
         (λ (e : i ≡ j). subst (λ (x : ℕ). x < m.order) (sym (ap (coefficient constants') e ∙ get_or-set_same constants j (coefficient row 0) 0 (omega arith))) (w.codes 0))
-        (λ (n : i ≢ j). subst (λ (x : ℕ). x < m.order) (sym (get_or-set_other constants j i (coefficient row 0) 0 n)) (h i))
+        (λ (n : i ≢ j). subst (λ (x : ℕ). x < m.order) (sym (get_or-set_other constants j i (coefficient row 0) 0 n)) (h i (omega (arith, n))))
         (cases_eq i j)
 
     -- row j is what the row was
@@ -103,6 +91,3 @@ module _ (m : RingMeaning) (L : RingLaws m) (f : List ℕ) (t : Taken m f) where
 
         kept : (i : ℕ) → i ≢ j → (c : ℕ) → c < d → restored old constants d i c ≡ restored new constants' d i c
         kept i n c l = ap₂ (cond (eqb c 0)) (sym (get_or-set_other constants j i (coefficient row 0) 0 n)) (sym (written_row d j i c put n l))
-
-    pub power_put_past : (k : ℕ) → d * d ≤ k → get_or new k 0 ≡ get_or old k 0
-    power_put_past k h = written_outside put k (inr (omega (arith, row_end d j d high)))

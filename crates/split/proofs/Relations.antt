@@ -1,13 +1,12 @@
--- The relation that a dependent row tells, in a buffer.
--- Main statement: relation-written.
-use Rattle.std.proofs.Common.{◌≡◌, ℕ, zero, suc, ◌+◌, ◌-◌, ◌*◌, ◌<◌, ◌≤◌, eqb, ◌≢◌, List, ◌++◌, length, get_or, take, drop, set, sym, ap, ◌∙◌, arith}
-use Rattle.std.proofs.lemmas.List.{length-set, length-append, get_or-set_same, get_or-set_other, set-append_left, take_at}
+-- The relation that a dependent row tells.
+-- Main statement: relation_written.
+use Rattle.std.proofs.Common.{◌≡◌, ℕ, zero, suc, ◌+◌, ◌-◌, ◌*◌, ◌<◌, ◌≤◌, eqb, ◌≢◌, List, ◌++◌, length, get_or, take, drop, set, sym, ap, ◌∙◌, subst, arith}
+use Rattle.std.proofs.lemmas.List.{length-set, get_or-set_same, get_or-set_other, set-append_left, take_at}
 use Rattle.std.proofs.lemmas.Bool.{cond-false, ne_eqb}
 use Rattle.field.specs.Ring.{RingMeaning}
 use Rattle.field.specs.Polynomial.{coefficient}
 use Rattle.field.specs.Rows.{IsRow}
 use Rattle.split.specs.Matrix.{cell, combined}
-use Rattle.split.specs.Calls.{Holds}
 use Rattle.split.specs.Sieve.{relation_at}
 use Rattle.split.proofs.SimpleKinds.{combination_row}
 
@@ -15,8 +14,8 @@ use Rattle.split.proofs.SimpleKinds.{combination_row}
 pub relation_written : (m : RingMeaning) (codes constants front rest : List ℕ) (d e v : ℕ) → e < d → 2 * (d * d) ≤ length codes
     → front ≡ take ((d + e) * d + e + 1 - (d + e) * d) (drop ((d + e) * d) codes)
     → v ≡ m.opposite (combined m e (cell codes d (d + e)) (coefficient constants))
-    → (t : List ℕ) × IsRow t (suc e) (relation_at m codes d e constants) × Holds t (e + 1) (set (front ++ rest) 0 v)
-relation_written m codes constants front rest d e v h fits is c = (set front 0 v, record { sized = sized; at = at }, record { long = omega (arith, sized); fits = omega (arith, whole); codes = begins })
+    → (t : List ℕ) → t ≡ take (e + 1) (set (front ++ rest) 0 v) → IsRow t (suc e) (relation_at m codes d e constants)
+relation_written m codes constants front rest d e v h fits is c t told = subst (λ (x : List ℕ). IsRow x (suc e) (relation_at m codes d e constants)) (sym (told ∙ begins)) (record { sized = sized; at = at })
   where
     row : IsRow front (suc e) (cell codes d (d + e))
     row = combination_row codes front d e h fits is
@@ -32,9 +31,6 @@ relation_written m codes constants front rest d e v h fits is c = (set front 0 v
 
     parts : set (front ++ rest) 0 v ≡ set front 0 v ++ rest
     parts = set-append_left front rest 0 v (omega (arith, row.sized))
-
-    whole : length (set (front ++ rest) 0 v) ≡ suc e + length rest
-    whole = ap length parts ∙ length-append (set front 0 v) rest ∙ ap (λ (n : ℕ). n + length rest) sized
 
     begins : take (e + 1) (set (front ++ rest) 0 v) ≡ set front 0 v
     begins = ap (take (e + 1)) parts ∙ take_at (set front 0 v) rest (e + 1) (omega (arith, sized))

@@ -1,6 +1,6 @@
 -- Rows of remainders modulo a monic polynomial f: how products are reduced, and powers of X.
 -- Main statements: monic_form, product_residue, multiplied, residue_product, power_sum, power_none, power_start, power_raised.
-use Rattle.std.proofs.Common.{◌≡◌, ℕ, zero, suc, ◌+◌, ◌-◌, ◌<◌, ◌≤◌, Bool, true, false, ◌≢◌, List, [], ◌∷◌, ◌++◌, map, length, take, set, replicate, MatchBool, sym, refl, ap, ◌∙◌, subst, ap₂, arith}
+use Rattle.std.proofs.Common.{◌≡◌, ℕ, zero, suc, ◌+◌, ◌-◌, ◌<◌, ◌≤◌, Bool, true, ◌≢◌, List, [], ◌∷◌, ◌++◌, map, length, take, set, replicate, MatchBool, Result, IsOk, IsErr, sym, refl, ap, ◌∙◌, subst, ap₂, arith}
 use Rattle.std.proofs.lemmas.List.{take_more, take_all, length-take-le, length-replicate, length-set, get_or-set_same, get_or-set_other}
 use Rattle.algebra.specs.Ring.{Ring}
 use Rattle.algebra.proofs.Powers.{pow_one}
@@ -9,6 +9,7 @@ use Rattle.algebra.proofs.Divides.{Divides as DividesPoly}
 use Rattle.algebra.proofs.Poly.{Polys}
 use Rattle.algebra.proofs.Terms.{X, const, X_coef_zero, X_coef_suc}
 use Rattle.field.specs.Checks.{below}
+use Rattle.field.specs.declared.row_products.RowFault.{RowFault}
 use Rattle.field.specs.Ring.{RingMeaning, RingLaws, one}
 use Rattle.field.specs.Polynomial.{coefficient, degree, constant, product, polynomial_power}
 use Rattle.field.specs.Quotient.{from_digits, modulus, lowered, reduced_by}
@@ -76,12 +77,10 @@ module _ (m : RingMeaning) (L : RingLaws m) (f : List ℕ) (t : Taken m f) where
       coded_product : Coded m (product m left right)
       coded_product = code_at m L _ (product_canonical m L left right)
 
-  -- what the product of two rows modulo f leaves
-  pub multiplied : (lower' left right old new : List ℕ) (r : Bool) → lower' ≡ lower → RowBelow m f left → RowBelow m f right → length old ≡ d
-      → MultipliesModulo m lower' left right old r new → Residue m f (product m left right) new
-  multiplied lower' left right old new r same hl hr long w = product_residue left right new hl.codes hr.codes
-      (subst (λ (b : Bool). MatchBool b ((r ≡ true) × (new ≡ reduced_by m lower (product m left right))) ((r ≡ false) × (new ≡ old))) fits
-      (subst (λ (xs : List ℕ). MultipliesModulo m xs left right old r new) same w)).1
+  -- the product of two rows modulo f is not refused, and what it leaves
+  pub multiplied : (lower' left right old new : List ℕ) (r : Result Unit RowFault) → lower' ≡ lower → RowBelow m f left → RowBelow m f right → length old ≡ d
+      → MultipliesModulo m lower' left right old r new → IsOk r × Residue m f (product m left right) new
+  multiplied lower' left right old new r same hl hr long w = (said.0, product_residue left right new hl.codes hr.codes said.1)
     where
       fits : rows_suit m lower left right old ≡ true
       fits = suits m lower left right old (record {
@@ -93,6 +92,10 @@ module _ (m : RingMeaning) (L : RingLaws m) (f : List ℕ) (t : Taken m f) where
         left_codes = λ i h. hl.codes i;
         right_codes = λ i h. hr.codes i;
       })
+
+      said : IsOk r × (new ≡ reduced_by m lower (product m left right))
+      said = subst (λ (b : Bool). MatchBool b (IsOk r × (new ≡ reduced_by m lower (product m left right))) (IsErr r × (new ≡ old))) fits
+          (subst (λ (xs : List ℕ). MultipliesModulo m xs left right old r new) same w)
 
   -- the product of what two rows are equal to
   pub residue_product : (a b r s row : List ℕ) → Coded m a → Coded m b → Residue m f a r → Residue m f b s → Residue m f (product m r s) row → Residue m f (product m a b) row

@@ -1,8 +1,7 @@
 -- Kind 1: the root and its codes.
--- Main statements: root_degree, root_long, root_within, root_written.
+-- Main statement: root_written.
 use Rattle.std.proofs.Common.{◌≡◌, ℕ, ◌+◌, ◌*◌, ◌/◌, ◌<◌, ◌≤◌, List, length, sym, refl, ap, ◌∙◌, div-le_self, arith}
-use native.Mathlib.Nat.{div-eq_of_eq-mul_left, mul-div-le}
-use Rattle.std.proofs.lemmas.Nat.{mul-le}
+use native.Mathlib.Nat.{div-eq_of_eq-mul_left}
 use Rattle.field.specs.Ring.{power}
 use Rattle.field.specs.Field.{FieldMeaning, FieldLaws}
 use Rattle.field.specs.Polynomial.{coefficient, degree, derivative, zero_polynomial}
@@ -14,10 +13,6 @@ use Rattle.split.specs.Calls.{Taken}
 use Rattle.split.proofs.Splittings.{IsRoot, kind_root}
 use Rattle.split.proofs.Buffers.{front_written}
 
--- the coefficients that the root takes lie within f
-pub root_within : (d p i : ℕ) → i < d / p + 1 → p * i ≤ d
-root_within d p i h = omega (arith, mul-le p i p (d / p) (omega arith) (omega arith), mul-div-le d p)
-
 module _ (F : FieldMeaning) (L : FieldLaws F) (f : List ℕ) (t : Taken F.ring f) (z : derivative F.ring f ≡ zero_polynomial) where
   abbrev r : List ℕ
   r = root_of F f
@@ -25,10 +20,10 @@ module _ (F : FieldMeaning) (L : FieldLaws F) (f : List ℕ) (t : Taken F.ring f
   is_root : IsRoot F L f r
   is_root = kind_root F L f t.canonical t.monic t.positive r (z, refl)
 
-  pub root_degree : degree f / F.characteristic ≡ degree r
+  root_degree : degree f / F.characteristic ≡ degree r
   root_degree = div-eq_of_eq-mul_left L.characteristic.positive is_root.degrees
 
-  pub root_long : length r ≡ degree f / F.characteristic + 1
+  root_long : length r ≡ degree f / F.characteristic + 1
   root_long = omega (arith, root_degree, is_root.canonical.some_code)
 
   pub root_written : (old new : List ℕ) (p n : ℕ) → p ≡ F.characteristic → n ≡ F.ring.order / p → length new ≡ length old → length f ≤ length old

@@ -1,5 +1,5 @@
 -- Where the rows of the scratch lie: row j takes the d places from j * d on.
--- Main statements: row_end, row_facts, rows_apart, row_code, scratch_code, combination_code.
+-- Main statements: row_end, row_inside, row_facts, rows_apart, row_code, scratch_code, combination_code.
 use Rattle.std.proofs.Common.{◌≡◌, ℕ, ◌+◌, ◌*◌, ◌<◌, ◌≤◌, ◌⊎◌, List, inl, inr, ⊎_elim, add-mul, arith}
 use Rattle.std.proofs.lemmas.Nat.{mul-le}
 use Rattle.std.proofs.lemmas.Bool.{cases_order}
@@ -9,6 +9,10 @@ use Rattle.split.specs.Matrix.{cell, Codes}
 -- row j ends where row j + 1 begins, and row n not before it if j is below n
 pub row_end : (d j n : ℕ) → j < n → j * d + d ≤ n * d
 row_end d j n h = omega (arith, mul-le (j + 1) d n d (omega arith) (omega arith), add-mul j 1 d)
+
+-- each row lies within the scratch
+pub row_inside : (d e : ℕ) → e < 2 * d → e * d + d ≤ 2 * (d * d)
+row_inside d e h = omega (arith, row_end d e (2 * d) h)
 
 -- what the bounds of the code need, as sums
 pub record RowFacts (d e : ℕ) : Type 0 where

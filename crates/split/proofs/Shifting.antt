@@ -1,5 +1,5 @@
 -- The search for the smallest shift, code by code.
--- Main statements: shifted_canonical, shifted_is, none_here, none_dropped, none_more, shift_left, shift_found, shares_decided.
+-- Main statements: shifted_is, none_dropped, none_more, shift_left, shift_found, shares_decided, same_divisor.
 use Rattle.std.proofs.Common.{◌≡◌, ℕ, zero, suc, ◌+◌, ◌-◌, ◌<◌, ◌≤◌, Bool, true, false, ltb, ◌≢◌, List, length, set, MatchBool, sym, ap, ◌∙◌, subst, arith, ltb-false, ltb-true}
 use native.Mathlib.Decide.{dec_lt}
 use lib.ListN.{get_or-eq_default}
@@ -31,7 +31,7 @@ module _ (m : RingMeaning) (L : RingLaws m) (Q : List ℕ) (cQ : Canonical m Q) 
   long : length shifted ≡ length Q
   long = length-set Q 0 _
 
-  pub shifted_canonical : Canonical m shifted
+  shifted_canonical : Canonical m shifted
   shifted_canonical = record {
     some_code = omega (arith, long);
     codes = codes;
@@ -69,7 +69,7 @@ module _ (F : FieldMeaning) (L : FieldLaws F) (f Q : List ℕ) (t : Taken F.ring
   long_f = omega (arith, positive_size m L.ring f t.canonical t.positive)
 
   -- a common divisor that is not of positive degree is one
-  pub none_here : (w : ℕ) (h : List ℕ) → ShiftDivisor m f Q w h → (0 < degree h → ⊥) → ShiftDivisor m f Q w (constant (one m))
+  none_here : (w : ℕ) (h : List ℕ) → ShiftDivisor m f Q w h → (0 < degree h → ⊥) → ShiftDivisor m f Q w (constant (one m))
   none_here w h d n = subst (ShiftDivisor m f Q w) (monic_constant m h d.canonical (one_canonical m L.ring) (common_monic F L f _ h long_f d) n) d
 
   -- a shift that the sieve drops has none
@@ -98,11 +98,11 @@ module _ (F : FieldMeaning) (L : FieldLaws F) (f Q : List ℕ) (t : Taken F.ring
   pub shift_found : (w : ℕ) (h : List ℕ) → NoneBelow m f Q w → ShiftDivisor m f Q w h → 0 < degree h → SmallestShift m f Q w h
   shift_found w h b d p = record { code = shift_left w b; divisor = d; positive = p; smallest = b }
 
-  -- a common divisor of n codes: whether it is of positive degree
-  pub shares_decided : (w : ℕ) (h : List ℕ) → ShiftDivisor m f Q w h → (n : ℕ) → n ≡ length h → (b : Bool) → ltb 1 n ≡ b
+  -- a common divisor of degree n: whether that is positive
+  pub shares_decided : (w : ℕ) (h : List ℕ) → ShiftDivisor m f Q w h → (n : ℕ) → n ≡ degree h → (b : Bool) → ltb 0 n ≡ b
       → MatchBool b ((g : List ℕ) × ShiftDivisor m f Q w g × (0 < degree g)) (ShiftDivisor m f Q w (constant (one m)))
-  shares_decided w h d n e true l = (h, d, omega (arith, ltb-true 1 n l))
-  shares_decided w h d n e false l = none_here w h d (λ p. omega (arith, ltb-false 1 n l))
+  shares_decided w h d n e true l = (h, d, omega (arith, ltb-true 0 n l))
+  shares_decided w h d n e false l = none_here w h d (λ p. omega (arith, ltb-false 0 n l))
 
   -- two common divisors at one shift are the same
   pub same_divisor : (w : ℕ) (g h : List ℕ) → ShiftDivisor m f Q w g → ShiftDivisor m f Q w h → g ≡ h

@@ -1,6 +1,6 @@
 -- A polynomial t with f dividing t(Q) tells the shifts that are worth a try: f itself where Q is X, and what a dependent row among
 -- the powers of Q gives.
--- Main statements: value_point, sieve_composed, sieve_itself, relation_canonical, relation_sieves.
+-- Main statements: value_point, sieve_composed, sieve_itself, relation_is.
 use Rattle.std.proofs.Common.{◌≡◌, ℕ, zero, suc, ◌+◌, ◌-◌, ◌*◌, ◌<◌, ◌≤◌, cond, eqb, List, [], ◌∷◌, length, sym, ap, ◌∙◌, subst, ap₂, arith}
 use native.Mathlib.Decide.{dec_lt}
 use Rattle.std.proofs.lemmas.Bool.{cond-false, ne_eqb}
@@ -28,7 +28,7 @@ use Rattle.field.specs.Polynomials.{P, Coded, code_at, poly_of, poly_of_coef, po
 use Rattle.field.proofs.Factors.{divides_to}
 use Rattle.split.specs.Matrix.{cell, combined, Codes, Dependent}
 use Rattle.split.specs.FixedRows.{variable}
-use Rattle.split.specs.Sieve.{Sieves, PowerRows, restored, relation_at}
+use Rattle.split.specs.Sieve.{Sieves, IsSieve, PowerRows, restored, relation_at}
 use Rattle.split.proofs.Carrier.{combined_is, combined_rows, combined_longer}
 use Rattle.split.proofs.Rows.{row_code, combination_code}
 use Rattle.split.proofs.Modulo.{poly_variable, modulo_to}
@@ -122,7 +122,7 @@ module _ (F : FieldMeaning) (L : FieldLaws F) (f Q : List ℕ) (cf : Canonical F
         let r : suc (e - 1) ≡ e = omega (arith, dep.low) in
         ap (coefficient t) s ∙ later (e - 1) (omega (arith, dep.low)) ∙ ap c r ∙ dep.unit
 
-    pub relation_canonical : Canonical m t
+    relation_canonical : Canonical m t
     relation_canonical = record {
       some_code = omega (arith, is.sized);
       codes = codes;
@@ -194,6 +194,9 @@ module _ (F : FieldMeaning) (L : FieldLaws F) (f Q : List ℕ) (cf : Canonical F
             beyond : (j k : ℕ) → (k < d → ⊥) → (poly (polynomial d (restored old constants d j))).coef k ≡ C.𝟘
             beyond j k h = poly_of_coef m L.ring _ k ∙ ap (scalar m L.ring) (polynomial_beyond d (restored old constants d j) k (omega (arith, h))) ∙ scalar_zero m L.ring
 
-    pub relation_sieves : Sieves m f Q t
+    relation_sieves : Sieves m f Q t
     relation_sieves = sieve_composed t coded (subst (DividesPoly Ps (poly f)) (ap (λ (x : P m L.ring). Ps.◌⊕◌ (combine (suc e) (poly t).coef (pow Ps (poly Q))) (Ps.neg x)) vanishes ∙ ap (Ps.◌⊕◌ _) (neg_zero Ps) ∙ add_zero Ps _ ∙ sym (compose_combine (poly Q) (poly t) (suc e) (subst (λ (n : ℕ). size (poly t) ≤ n) is.sized (poly_of_short m L.ring t))))
         (combine_modulo (poly f) (suc e) (poly t).coef (pow Ps (poly Q)) remainder equal))
+
+    pub relation_is : IsSieve m f Q t
+    relation_is = record { canonical = relation_canonical; sieves = relation_sieves }

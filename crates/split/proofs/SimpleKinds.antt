@@ -1,7 +1,6 @@
 -- Kinds 3 and 4: what the search for a dependent row gives.
--- Main statements: combination_within, combination_row, zero_sieves; long_nonzero, code_nonzero, divisor_one.
-use Rattle.std.proofs.Common.{◌≡◌, ℕ, suc, ◌+◌, ◌-◌, ◌*◌, ◌<◌, ◌≤◌, List, [], length, get_or, take, drop, sym, ap, ◌∙◌, subst, arith}
-use Rattle.std.proofs.lemmas.List.{get_or-take}
+-- Main statements: combination_within, combination_row, zero_sieves; divisor_one.
+use Rattle.std.proofs.Common.{◌≡◌, ℕ, suc, ◌+◌, ◌-◌, ◌*◌, ◌<◌, ◌≤◌, List, [], length, get_or, take, drop, ap, ◌∙◌, subst, arith}
 use Rattle.std.proofs.lemmas.List.Edits.{length-between, get_or-between}
 use Rattle.field.specs.Ring.{RingMeaning, RingLaws, one}
 use Rattle.field.specs.Field.{FieldMeaning, FieldLaws}
@@ -13,7 +12,7 @@ use Rattle.field.specs.Polynomials.{positive_size, one_canonical}
 use Rattle.field.proofs.CommonDivisors.{common_monic}
 use Rattle.split.specs.Matrix.{cell}
 use Rattle.split.specs.Sieve.{Sieves}
-use Rattle.split.specs.Calls.{Taken, Holds}
+use Rattle.split.specs.Calls.{Taken}
 use Rattle.split.proofs.Fixed.{monic_constant}
 use Rattle.split.proofs.Rows.{row_facts}
 
@@ -39,13 +38,6 @@ combination_row codes Q d e h fits is = record {
 pub zero_sieves : (m : RingMeaning) → RingLaws m → (f Q : List ℕ) → Sieves m f Q zero_polynomial
 zero_sieves m L f Q w h code d p =
     value_more m L 0 [] w (zero_is_code m L) (λ i. zero_is_code m L) code ∙ ap (m.sum 0) (ap (m.product w) (value_none m L w) ∙ product_zero m L w code) ∙ L.sum_zero 0 (zero_is_code m L)
-
--- a buffer that holds a polynomial of other than one code, or with a code that is not 0: the polynomial is not zero
-pub long_nonzero : (p buffer : List ℕ) (n : ℕ) → Holds p n buffer → (n ≡ 1 → ⊥) → p ≡ zero_polynomial → ⊥
-long_nonzero p buffer n w k e = k (w.long ∙ ap length e)
-
-pub code_nonzero : (p buffer : List ℕ) (n : ℕ) → Holds p n buffer → n ≡ 1 → (get_or buffer 0 0 ≡ 0 → ⊥) → p ≡ zero_polynomial → ⊥
-code_nonzero p buffer n w one k e = k (sym (get_or-take n buffer 0 0 (omega arith)) ∙ ap (λ (xs : List ℕ). get_or xs 0 0) (w.codes ∙ e))
 
 -- a common divisor with f that is not of positive degree is one
 pub divisor_one : (F : FieldMeaning) (L : FieldLaws F) (f g h : List ℕ) → Taken F.ring f → IsCommonDivisor F.ring f g h → (0 < degree h → ⊥) → IsCommonDivisor F.ring f g (constant (one F.ring))

@@ -1,14 +1,14 @@
 -- What each step of the elimination does to the echelon form.
--- Main statements: scaled, scaled_codes, echelon_frame, partly_none, partly_more, subtracted_codes, echelon_more, unit_codes.
+-- Main statements: scaled, echelon_frame, partly_none, partly_more, echelon_more.
 use Rattle.std.proofs.Common.{◌≡◌, ℕ, ◌+◌, ◌-◌, ◌*◌, ◌<◌, ◌≤◌, eqb, List, get_or, sym, refl, ap, ◌∙◌, subst, ap₂, ⊎_elim, arith}
-use Rattle.std.proofs.lemmas.Bool.{cases_eq, cond-true, cond-false, cond_both, eq-eqb, ne_eqb}
+use Rattle.std.proofs.lemmas.Bool.{cases_eq, cond-true, cond-false, eq-eqb, ne_eqb}
 use Rattle.field.specs.Ring.{RingMeaning, RingLaws, one}
 use Rattle.field.specs.Rows.{Written}
 use Rattle.split.specs.Matrix.{cell, Codes, combined}
 use Rattle.split.specs.Echelon.{Echelon, Partly, Frame, Subtracted, Scaled, pivot_of, less, unit_at}
 use Rattle.split.proofs.Rows.{row_code, scratch_code, combination_code}
 use Rattle.split.proofs.Leads.{lead_is}
-use Rattle.split.proofs.Frames.{frame_row, frame_pivot, frame_codes, frame_one, frame_two, written_row}
+use Rattle.split.proofs.Frames.{frame_row, frame_pivot, frame_two, written_row}
 use Rattle.field.specs.Scalars.{product_zero, zero_is_code}
 use Rattle.split.proofs.Carrier.{less_zero, less_self, combined_same, combined_less, combined_scale, combined_unit}
 
@@ -31,13 +31,6 @@ scaled m L d e u q {old} {mid} {new} high b before hq hu inverse w v =
       pivot_in = omega arith;
       pivot_one = ap (cell new d e) pivot ∙ unit;
     }
-
--- a row that is multiplied leaves codes
-pub scaled_codes : (m : RingMeaning) (L : RingLaws m) (d e n u : ℕ) (codes new : List ℕ) → Scaled m d e u codes new → Codes m n codes → Codes m n new
-scaled_codes m L d e n u codes new s b =
-    frame_codes m n d e s.frame b
-    (λ i h. subst (λ (x : ℕ). x < m.order) (sym (s.row i h)) (L.product_code _ _))
-    (λ i h. subst (λ (x : ℕ). x < m.order) (sym (s.combination i h)) (L.product_code _ _))
 
 module _ (m : RingMeaning) (L : RingLaws m) (d e : ℕ) (low : 1 ≤ e) (high : e < d) where
   -- rows before e stay in echelon form while row e is worked on
@@ -114,13 +107,6 @@ module _ (m : RingMeaning) (L : RingLaws m) (d e : ℕ) (low : 1 ≤ e) (high : 
       none_beyond = λ j h k. combination_keeps j 0 (zero_is_code m L) (part.none_beyond j h k) k (ech.none_beyond r j first (omega arith) (omega arith) k);
     }
 
-  -- a multiple taken from row e leaves codes
-  pub subtracted_codes : (n r t : ℕ) (codes new : List ℕ) → Subtracted m d r e t codes new → Codes m n codes → Codes m n new
-  subtracted_codes n r t codes new s b =
-      frame_codes m n d e s.frame b
-      (λ i h. subst (λ (x : ℕ). x < m.order) (sym (s.row i h)) (L.sum_code _ _))
-      (λ i h. subst (λ (x : ℕ). x < m.order) (sym (s.combination i h)) (L.sum_code _ _))
-
   -- Row e, cleared at all pivots before it and scaled to one at its own, is the next of the echelon form.
   pub echelon_more : (old codes new : List ℕ) (u : ℕ) → Codes m (d * d) old → Codes m (2 * (d * d)) codes
       → Echelon m d old codes (e - 1) → Partly m d old codes e (e - 1) → Scaled m d e u codes new → Echelon m d old new e
@@ -152,10 +138,3 @@ module _ (m : RingMeaning) (L : RingLaws m) (d e : ℕ) (low : 1 ≤ e) (high : 
 
       zero_here : (j : ℕ) → j < d → cell codes d (d + e) j ≡ 0 → cell new d (d + e) j ≡ 0
       zero_here j h z = s.combination j h ∙ ap (m.product u) z ∙ product_zero m L u s.code
-
-  -- a unit vector leaves codes
-  pub unit_codes : (n : ℕ) (codes new : List ℕ) → 2 * (d * d) ≤ n → Written codes new ((d + e) * d) d (unit_at e) → Codes m n codes → Codes m n new
-  unit_codes n codes new fits w b =
-      frame_codes m n d e (frame_one d e w) b
-      (λ i h. subst (λ (x : ℕ). x < m.order) (sym (written_row d (d + e) e i w (omega arith) h)) (scratch_code m d e i codes (λ k l. b k (omega arith)) high h))
-      (λ i h. subst (λ (x : ℕ). x < m.order) (sym (w.inside i h)) (cond_both (eqb i e) 1 0 (λ x. x < m.order) (λ _. L.one_code.1) (λ _. zero_is_code m L)))

@@ -1,5 +1,5 @@
 -- What the call for one splitting step answers, and what its buffers then hold.
-use Rattle.std.specs.Prelude.{◌≡◌, ℕ, ◌<◌, ◌≤◌, List, length, take, Some, None, Option}
+use Rattle.std.specs.Prelude.{◌≡◌, ℕ, ◌<◌, ◌≤◌, List, length, Some, None, Option}
 use Rattle.field.specs.Ring.{RingMeaning}
 use Rattle.field.specs.Field.{FieldMeaning}
 use Rattle.field.specs.Polynomial.{degree, product, Canonical, Monic}
@@ -14,12 +14,6 @@ pub record Taken (m : RingMeaning) (f : List ℕ) : Type 0 where
   pub monic : Monic m f
   pub positive : 0 < degree f
 
--- a buffer begins with the n codes of p
-pub record Holds (p : List ℕ) (n : ℕ) (buffer : List ℕ) : Type 0 where
-  pub long : n ≡ length p
-  pub fits : n ≤ length buffer
-  pub codes : take n buffer ≡ p
-
 -- the pieces in two buffers, each from index 0 on; what is not written stays
 abbrev pub Pieces : Splitting → List ℕ → List ℕ → List ℕ → List ℕ → Type 0
 Pieces (root r) first second first' second' = (first' ≡ written r first) × (second' ≡ second)
@@ -27,12 +21,12 @@ Pieces (repeated g h) first second first' second' = (first' ≡ written g first)
 Pieces (shifted g h) first second first' second' = (first' ≡ written g first) × (second' ≡ written h second)
 Pieces whole first second first' second' = (first' ≡ first) × (second' ≡ second)
 
--- f is g times another polynomial: both are in the buffers, and the answer is the kind and their degrees
-pub record Paired (m : RingMeaning) (kind : ℕ) (f g first second : List ℕ) (a : ℕ × ℕ × ℕ) (first' second' : List ℕ) : Type 0 where
+-- f is g times another polynomial: both are in the buffers, and the answer is their degrees
+pub record Paired (m : RingMeaning) (f g first second : List ℕ) (a : ℕ × ℕ) (first' second' : List ℕ) : Type 0 where
   pub other : List ℕ
   pub canonical : Canonical m other
   pub multiplies : product m g other ≡ f
-  pub answers : a ≡ (kind, degree g, degree other)
+  pub answers : a ≡ (degree g, degree other)
   pub in_first : first' ≡ written g first
   pub in_second : second' ≡ written other second
 

@@ -39,6 +39,6 @@ row_polynomial d codes j = polynomial d (cell codes d j)
 abbrev pub FixedRows : RingMeaning → List ℕ → ℕ → List ℕ → Type 0
 FixedRows m f d codes = (j : ℕ) → 1 ≤ j → j < d → EqualModulo m f (power_gap m j) (row_polynomial d codes j)
 
--- the code at column i of a row with one taken away at column j
-abbrev pub less_one_at : RingMeaning → List ℕ → ℕ → ℕ → ℕ
-less_one_at m row j i = cond (i == j) (m.sum (coefficient row i) (m.opposite (one m))) (coefficient row i)
+-- the code at column k of a row with v in place of its code at column i
+abbrev pub changed_at : List ℕ → ℕ → ℕ → ℕ → ℕ
+changed_at row i v k = cond (k == i) v (coefficient row k)

@@ -3,7 +3,6 @@ use Rattle.std.specs.Prelude.{◌≡◌, ℕ, ◌+◌, ◌<◌, ◌≤◌, cond,
 use Rattle.field.specs.Ring.{RingMeaning, one}
 use Rattle.field.specs.Polynomial.{coefficient, degree, constant, polynomial, polynomial_power, value, Canonical}
 use Rattle.split.specs.Splitting.{ShiftDivisor}
-use Rattle.split.specs.Calls.{Holds}
 use Rattle.split.specs.Matrix.{cell, combined}
 use Rattle.split.specs.FixedRows.{EqualModulo}
 
@@ -11,12 +10,10 @@ use Rattle.split.specs.FixedRows.{EqualModulo}
 abbrev pub Sieves : RingMeaning → List ℕ → List ℕ → List ℕ → Type 0
 Sieves m f Q t = (w : ℕ) (h : List ℕ) → w < m.order → ShiftDivisor m f Q w h → 0 < degree h → value m t w ≡ 0
 
--- a buffer begins with the n codes of such a polynomial
-pub record SieveIn (m : RingMeaning) (f Q : List ℕ) (n : ℕ) (buffer : List ℕ) : Type 0 where
-  pub tells : List ℕ
-  pub canonical : Canonical m tells
-  pub sieves : Sieves m f Q tells
-  pub holds : Holds tells n buffer
+-- t is such a polynomial
+pub record IsSieve (m : RingMeaning) (f Q t : List ℕ) : Type 0 where
+  pub canonical : Canonical m t
+  pub sieves : Sieves m f Q t
 
 -- f and Q - u have no common divisor of positive degree for any shift u below w
 abbrev pub NoneBelow : RingMeaning → List ℕ → List ℕ → ℕ → Type 0
@@ -34,7 +31,3 @@ PowerRows m f Q d codes constants =
 -- The coefficients c of a combination of rows 1 to e that is zero, and before them the constant that makes it a relation of the powers.
 abbrev pub relation_at : RingMeaning → List ℕ → ℕ → ℕ → List ℕ → ℕ → ℕ
 relation_at m codes d e constants j = cond (j == 0) (m.opposite (combined m e (cell codes d (d + e)) (coefficient constants))) (cell codes d (d + e) j)
-
--- the code at column i of a row without its constant
-abbrev pub bare : List ℕ → ℕ → ℕ
-bare row i = cond (i == 0) 0 (coefficient row i)

@@ -1,10 +1,12 @@
 // The one call: a splitting step on one polynomial.
-ghost use Rattle.field.specs.Field.{means};
+ghost use Rattle.std.specs.Option.{option_map};
+ghost use Rattle.field.specs.Field.{field_of};
 ghost use Rattle.split.specs.Splitting.{OneSplitting, WholeUnsplittable};
+ghost use Rattle.split.specs.Kinds.{numbered};
 ghost use Rattle.split.specs.Calls.{Works};
 
-use crate::checks::takes;
-use crate::kinds::split_taken;
+use crate::Kind;
+use crate::operand::Operand;
 use crate::scratch::Scratch;
 use field::Field;
 use poly::MOST_CODES;
@@ -23,19 +25,21 @@ pub fn split<F: Field>(
     scratch: &mut [u16],
     first: &mut [u16; MOST_CODES],
     second: &mut [u16; MOST_CODES],
-) -> Option<(u8, usize, usize)>
+) -> Option<(Kind, usize, usize)>
     requires { F.made field.now }
-    ensures works { Works (means (F.meaning field.now) (F.extras field.now)) f.now scratch.old first.old second.old result scratch.new first.new second.new }
+    ensures works { Works (field_of F.Field field.now) f.now scratch.old first.old second.old (option_map numbered result) scratch.new first.new second.new }
     ensures once { OneSplitting }
     ensures whole { WholeUnsplittable }
 {
-    if !takes(field, f, scratch.len()) {
+    let operand = Operand::new(field, f)?;
+    let d = f.len() - 1;
+    // none for this too: a caller whose f is taken knows what the answer means
+    if scratch.len() < 2 * d * d {
         return None;
     }
-    let d = f.len() - 1;
     let guard = Scratch {
         codes: scratch,
         used: 2 * d * d,
     };
-    Some(split_taken(field, f, &mut *guard.codes, first, second))
+    Some(operand.split(&mut *guard.codes, first, second))
 }

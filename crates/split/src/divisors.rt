@@ -1,56 +1,47 @@
 // The calls on polynomials that the step makes, none of which can be refused.
-ghost use Rattle.std.specs.Prelude.{◌≡◌, ℕ, ◌≤◌, List, length};
-ghost use Rattle.field.specs.Field.{FieldLaws, means};
+ghost use Rattle.std.specs.Prelude.{◌≡◌, ◌≤◌, length};
 ghost use Rattle.field.specs.Polynomial.{derivative, product, Canonical, Divides, IsCommonDivisor};
-ghost use Rattle.poly.specs.Calls.{written};
 ghost use Rattle.poly.specs.Faults.{most_codes};
-ghost use Rattle.split.specs.Calls.{Taken, Holds};
 
-use field::{Field, Ring};
+use crate::operand::Operand;
+use crate::polynomial::Polynomial;
+use field::Field;
 use poly::MOST_CODES;
 
-// Writes the derivative of f into a buffer, and answers its length.
-pub(crate) fn derive<R: Ring>(ring: &R, f: &[u16], out: &mut [u16]) -> usize
-    requires made { R.made ring.now }
-    requires taken { Taken (R.meaning ring.now) f.now }
-    requires room { most_codes ≤ length out.old }
-    ensures { Holds (derivative (R.meaning ring.now) f.now) result out.new }
-{
-    match poly::derivative(ring, f, out) {
-        Ok(n) => n,
-        Err(_) => unreachable(),
+impl<F: Field> Operand<'_, F> {
+    // The derivative.
+    pub(crate) fn derivative(&self) -> Polynomial
+        requires { F.made self.now.field.now }
+        ensures { result ≡ derivative (F.meaning self.now.field.now) self.now.f.now }
+    {
+        let mut codes = [0; MOST_CODES];
+        let n = poly::derivative(self.field, self.f, &mut codes).unwrap();
+        Polynomial::new(codes, n)
     }
-}
 
-// Writes the greatest common divisor of f and g into a buffer, and answers its length.
-pub(crate) fn common_divisor<F: Field>(field: &F, f: &[u16], g: &[u16], out: &mut [u16]) -> usize
-    requires made { F.made field.now }
-    requires laws { FieldLaws (means (F.meaning field.now) (F.extras field.now)) }
-    requires taken { Taken (F.meaning field.now) f.now }
-    requires other { Canonical (F.meaning field.now) g.now }
-    requires short { length g.now ≤ most_codes }
-    requires room { most_codes ≤ length out.old }
-    ensures { (h : List ℕ) × IsCommonDivisor (F.meaning field.now) f.now g.now h × Holds h result out.new }
-{
-    match poly::gcd(field, f, g, out) {
-        Ok(n) => n,
-        Err(_) => unreachable(),
+    // The greatest common divisor with g.
+    pub(crate) fn common_divisor(&self, g: &[u16]) -> Polynomial
+        requires made { F.made self.now.field.now }
+        requires other { Canonical (F.meaning self.now.field.now) g.now }
+        requires short { length g.now ≤ most_codes }
+        ensures { IsCommonDivisor (F.meaning self.now.field.now) self.now.f.now g.now result }
+    {
+        let mut codes = [0; MOST_CODES];
+        let n = poly::gcd(self.field, self.f, g, &mut codes).unwrap();
+        Polynomial::new(codes, n)
     }
-}
 
-// Writes the quotient of f by its divisor g into a buffer, and answers its length.
-pub(crate) fn cofactor<F: Field>(field: &F, f: &[u16], g: &[u16], out: &mut [u16]) -> usize
-    requires made { F.made field.now }
-    requires laws { FieldLaws (means (F.meaning field.now) (F.extras field.now)) }
-    requires taken { Taken (F.meaning field.now) f.now }
-    requires other { Canonical (F.meaning field.now) g.now }
-    requires divides { Divides (F.meaning field.now) g.now f.now }
-    requires room { most_codes ≤ length out.old }
-    ensures { (h : List ℕ) × Canonical (F.meaning field.now) h × (product (F.meaning field.now) g.now h ≡ f.now) × (result ≡ length h) × (out.new ≡ written h out.old) }
-{
-    let mut rest = [0u16; MOST_CODES];
-    match poly::divide(field, f, g, out, &mut rest) {
-        Ok((n, _)) => n,
-        Err(_) => unreachable(),
+    // The quotient by the divisor g.
+    pub(crate) fn cofactor(&self, g: &[u16]) -> Polynomial
+        requires made { F.made self.now.field.now }
+        requires other { Canonical (F.meaning self.now.field.now) g.now }
+        requires divides { Divides (F.meaning self.now.field.now) g.now self.now.f.now }
+        ensures canonical { Canonical (F.meaning self.now.field.now) result }
+        ensures multiplies { product (F.meaning self.now.field.now) g.now result ≡ self.now.f.now }
+    {
+        let mut codes = [0; MOST_CODES];
+        let mut rest = [0; MOST_CODES];
+        let (n, _) = poly::divide(self.field, self.f, g, &mut codes, &mut rest).unwrap();
+        Polynomial::new(codes, n)
     }
 }

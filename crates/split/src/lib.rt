@@ -3,14 +3,18 @@
 #![tactic(auto)]
 
 mod calls;
-mod checks;
 mod divisors;
 mod elimination;
 mod fixing;
+mod kind;
 mod kinds;
+mod operand;
+mod polynomial;
+mod remainders;
 mod roots;
 mod scratch;
 mod shifts;
 mod sieves;
 
 pub use calls::split;
+pub use kind::Kind;

@@ -8,22 +8,12 @@ pub(crate) struct Scratch<'a> {
     pub(crate) used: usize,
 }
 
-// Zeroes the first n codes.
-fn wipe(codes: &mut [u16], n: usize)
-    requires { n ≤ length codes.old }
-    ensures { codes.new ≡ wiped n codes.old }
-{
-    for i in 0..n {
-        codes[i] = 0;
-    }
-}
-
 impl Drop for Scratch<'_> {
     fn drop(self)
         requires { self.used ≤ length self.codes.now }
         ensures { self.exit.0.now ≡ wiped self.entry.used self.entry.codes.now }
     {
         let Scratch { codes, used } = self;
-        wipe(codes, used);
+        codes[..used].fill(0);
     }
 }

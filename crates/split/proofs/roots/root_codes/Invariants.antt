@@ -5,4 +5,4 @@ use Rattle.field.specs.Rows.{Written}
 use Rattle.split.proofs.roots.root_codes.Given as goal
 
 abbrev pub invariant-loop-i : goal.invariant-loop-i
-invariant-loop-i g l = Written l.initial.out l.out 0 l.i (λ i. power (g.R.Ring.meaning l.ring) (coefficient l.f (l.p * i)) l.n)
+invariant-loop-i g l = Written l.initial.c-items l.c-items 0 l.i (λ i. power (g.R.Ring.meaning l.ring) (coefficient l.f (l.p * i)) l.n)

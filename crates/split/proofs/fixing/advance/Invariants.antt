@@ -1,6 +1,0 @@
-use Rattle.std.proofs.Common.{ℕ, ◌+◌}
-use Rattle.split.specs.FixedRows.{PowerRow}
-use Rattle.split.proofs.fixing.advance.Given as goal
-
-abbrev pub invariant-loop : goal.invariant-loop
-invariant-loop g l = (n : ℕ) → PowerRow (g.R.Ring.meaning l.ring) l.f n l.initial.row → PowerRow (g.R.Ring.meaning l.ring) l.f (n + l.counter) l.row
