@@ -1,37 +1,21 @@
 // How an extension is made: its modulus is tried by the splitting method.
 ghost use Rattle.std.specs.Prelude.{◌≡◌, ◌-◌, ◌<◌, length, None, MatchBool, ◌≢◌};
-ghost use Rattle.field.specs.Field.{FieldLaws, means};
+ghost use Rattle.field.specs.Field.{field_of};
 ghost use Rattle.field.specs.Quotient.{modulus, quotient_ring, extension_extras};
 ghost use Rattle.field.specs.Faults.{quotient_refusal};
 ghost use Rattle.split.specs.Splitting.{Splitting, whole, SplitsInto};
 ghost use Rattle.extension.specs.Extension.{Extended, ExtensionsJudged, ExtensionsAreFields};
 
 use crate::Extension;
-use field::{Field, FieldFault, Quotient, Ring, write_polynomial};
+use field::{Field, FieldFault, ONE, Quotient, Ring, ask, write_polynomial};
 use poly::MOST_CODES;
-use split::split;
-
-// The code of one.
-const ONE: u16 = 1;
-
-// The kind of splitting that leaves a polynomial whole.
-const WHOLE: u8 = 4;
+use split::{Kind, split};
 
 // The most codes of a modulus: k is at most 16.
 const MODULUS_CODES: usize = 17;
 
 // The scratch for the splitting of such a modulus: twice 16 rows of 16 codes.
 const SCRATCH_CODES: usize = 512;
-
-// The laws of a field come with the answers to its three questions.
-fn ask<F: Field>(field: &F)
-    requires { F.made field.now }
-    ensures { FieldLaws (means (F.meaning field.now) (F.extras field.now)) }
-{
-    let _ = field.characteristic();
-    let _ = field.exponent();
-    let _ = field.inverse(ONE);
-}
 
 // Writes the power of t that has its place at the end of the row, plus the polynomial of m.
 fn write_modulus<R: Ring>(ring: &R, m: u32, row: &mut [u16])
@@ -47,7 +31,7 @@ fn write_modulus<R: Ring>(ring: &R, m: u32, row: &mut [u16])
 fn modulus_splits<F: Field>(base: &F, k: usize, m: u32) -> bool
     requires made { F.made base.now }
     requires range { quotient_refusal (F.meaning base.now) k m ≡ None }
-    ensures { MatchBool result ((s : Splitting) × SplitsInto (means (F.meaning base.now) (F.extras base.now)) (modulus (F.meaning base.now) k m) s × (s ≢ whole)) (SplitsInto (means (F.meaning base.now) (F.extras base.now)) (modulus (F.meaning base.now) k m) whole) }
+    ensures { MatchBool result ((s : Splitting) × SplitsInto (field_of F.Field base.now) (modulus (F.meaning base.now) k m) s × (s ≢ whole)) (SplitsInto (field_of F.Field base.now) (modulus (F.meaning base.now) k m) whole) }
 {
     let mut codes = [0u16; MODULUS_CODES];
     let f = &mut codes[..k + 1];
@@ -56,7 +40,7 @@ fn modulus_splits<F: Field>(base: &F, k: usize, m: u32) -> bool
     let mut first = [0u16; MOST_CODES];
     let mut second = [0u16; MOST_CODES];
     match split(base, f, &mut scratch, &mut first, &mut second) {
-        Some((kind, _, _)) => kind != WHOLE,
+        Some((kind, _, _)) => kind != Kind::Whole,
         None => true,
     }
 }
@@ -67,7 +51,7 @@ impl<F: Field> Extension<F> {
     // polynomials of smaller positive degree.
     pub fn new(base: F, k: u32, m: u32) -> Result<Extension<F>, FieldFault>
         requires { F.made base }
-        ensures makes { Extended (means (F.meaning base) (F.extras base)) k m (λ x. ⟦<Extension<F> as Ring>⟧.made x × (⟦<Extension<F> as Ring>⟧.meaning x ≡ quotient_ring (F.meaning base) k m) × (⟦<Extension<F> as Field>⟧.extras x ≡ extension_extras (means (F.meaning base) (F.extras base)) k m)) result }
+        ensures makes { Extended (field_of F.Field base) k m (λ x. ⟦<Extension<F> as Ring>⟧.made x × (⟦<Extension<F> as Ring>⟧.meaning x ≡ quotient_ring (F.meaning base) k m) × (⟦<Extension<F> as Field>⟧.extras x ≡ extension_extras (field_of F.Field base) k m)) result }
         ensures judged { ExtensionsJudged }
         ensures fields { ExtensionsAreFields }
     {

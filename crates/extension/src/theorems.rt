@@ -2,9 +2,7 @@
 ghost use Rattle.extension.specs.Extension.{ExtensionsJudged, ExtensionsAreFields};
 
 // An extension is refused for its modulus exactly if that is a product, and one that is made is a field.
-pub fn law_of_extensions() -> u8
+pub fn law_of_extensions()
     ensures judged { ExtensionsJudged }
     ensures fields { ExtensionsAreFields }
-{
-    0
-}
+{}
