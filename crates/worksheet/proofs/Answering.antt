@@ -1,6 +1,7 @@
 -- A step on a worksheet has one outcome, and one only: what `Stepped` says can be met, in one way.
 -- Main statement: one-step.
 use Rattle.std.proofs.Common.{◌≡◌, ℕ, List, ◌∷◌, Some, None, Ok, Err, Option, Result, sym, refl, ap, ◌∙◌, subst, ap₂}
+use Rattle.std.proofs.lemmas.Option.{same_Some}
 use Rattle.field.specs.Field.{FieldMeaning, FieldLaws}
 use Rattle.field.specs.Ranges.{some_none}
 use Rattle.split.specs.Splitting.{Splitting, SplitsInto, answer, wiped}
@@ -11,7 +12,7 @@ use Rattle.worksheet.specs.Faults.{step_refusal, scratch_refusal}
 use Rattle.worksheet.specs.Calls.{replaced, Stepped, scratch_of}
 use Rattle.worksheet.specs.Law.{OneStep}
 use Rattle.worksheet.proofs.EachOf.{each_back}
-use Rattle.worksheet.proofs.PartLists.{Found, found_open, some_injective}
+use Rattle.worksheet.proofs.PartLists.{Found, found_open}
 
 -- where a step is not refused, a part is open
 some_open : (n : ℕ) (o : Option PartMeaning) → scratch_refusal n o ≡ None → (p : PartMeaning) × (o ≡ Some p)
@@ -65,7 +66,7 @@ module _ (F : FieldMeaning) (L : FieldLaws F) (s : SheetMeaning) (h : GoodSheet 
       )
         where
           part : w.1.part ≡ p
-          part = some_injective w.1.part p (sym w.1.next ∙ e)
+          part = same_Some w.1.part p (sym w.1.next ∙ e)
 
           splitting : w.1.splitting ≡ x
           splitting = one w.1.splitting (subst (λ (q : PartMeaning). SplitsInto F q.codes w.1.splitting) part w.1.splits)

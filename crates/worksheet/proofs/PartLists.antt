@@ -1,7 +1,8 @@
 -- Lists of parts: where a part is placed, and a list taken apart at the part that a call works on.
--- Main statements: place_view, place_each, place_ordered; Found, found_open, found_at, without_found, settle_found;
+-- Main statements: not_same; place_view, place_turns, place_each, place_ordered; Found, found_open, found_at, without_found, settle_found;
 -- middle_each, middle_ordered.
-use Rattle.std.proofs.Common.{◌≡◌, ℕ, zero, suc, Bool, true, false, ◌⊎◌, List, [], ◌∷◌, ◌++◌, Some, None, Option, sym, refl, ap, ◌∙◌, subst, ap₂, inl, inr}
+use Rattle.std.proofs.Common.{◌≡◌, ℕ, zero, suc, Bool, true, false, ◌⊎◌, List, [], ◌∷◌, ◌++◌, Some, sym, refl, ap, ◌∙◌, subst, ap₂, inl, inr}
+use Rattle.std.proofs.lemmas.Option.{same_Some}
 use Rattle.field.specs.Checks.{same}
 use Rattle.std.proofs.lemmas.Bool.{cond-true, cond-false}
 use Rattle.field.specs.Tests.{list_test, equal_list, same_list}
@@ -10,7 +11,7 @@ use Rattle.worksheet.specs.Sheet.{PartMeaning, new_part, grown, before, place, w
 use Rattle.worksheet.proofs.EachOf.{each_map, each_append, each_front, each_back}
 use Rattle.worksheet.proofs.PartOrder.{Before, Told, before_total, before_trans, before_apart}
 
-not_same : (f g : List ℕ) → (f ≡ g → ⊥) → same f g ≡ false
+pub not_same : (f g : List ℕ) → (f ≡ g → ⊥) → same f g ≡ false
 not_same f g n = go (same f g) refl
   where
     go : (b : Bool) → same f g ≡ b → same f g ≡ false
@@ -44,15 +45,19 @@ pub place_none : (f : List ℕ) (n : ℕ) → place f n [] ≡ new_part f n ∷ 
 unfolding place
 place_none f n = refl
 
--- what holds of each part holds after placing, if it holds of the new part and of one that grows
-pub place_each : (P : PartMeaning → Type 0) (f : List ℕ) (n : ℕ) → P (new_part f n) → ((p : PartMeaning) → p.codes ≡ f → P p → P (grown n p)) → (ps : List PartMeaning) → Each P ps → Each P (place f n ps)
-place_each P f n new grow [] h = subst (Each P) (sym (place_none f n)) (new, tt)
-place_each P f n new grow (p ∷ ps) h = go (place_view f n p ps) (place_each P f n new grow ps h.1)
+-- what holds of each part after placing, from what held before
+pub place_turns : (P Q : PartMeaning → Type 0) (f : List ℕ) (n : ℕ) → Q (new_part f n) → ((p : PartMeaning) → p.codes ≡ f → P p → Q (grown n p)) → ((p : PartMeaning) → P p → Q p) → (ps : List PartMeaning) → Each P ps → Each Q (place f n ps)
+place_turns P Q f n new grow stay [] a = subst (Each Q) (sym (place_none f n)) (new, tt)
+place_turns P Q f n new grow stay (p ∷ ps) a = go (place_view f n p ps) (place_turns P Q f n new grow stay ps a.1)
   where
-    go : PlaceView f n p ps → Each P (place f n ps) → Each P (place f n (p ∷ ps))
-    go (inl v) rec = subst (Each P) (sym v.1) (grow p v.0 h.0, h.1)
-    go (inr (inl v)) rec = subst (Each P) (sym v.1) (h.0, rec)
-    go (inr (inr v)) rec = subst (Each P) (sym v.1) (new, h)
+    go : PlaceView f n p ps → Each Q (place f n ps) → Each Q (place f n (p ∷ ps))
+    go (inl v) rec = subst (Each Q) (sym v.1) (grow p v.0 a.0, each_map P Q stay ps a.1)
+    go (inr (inl v)) rec = subst (Each Q) (sym v.1) (stay p a.0, rec)
+    go (inr (inr v)) rec = subst (Each Q) (sym v.1) (new, (stay p a.0, each_map P Q stay ps a.1))
+
+-- the same of what held before and holds of each part still
+pub place_each : (P : PartMeaning → Type 0) (f : List ℕ) (n : ℕ) → P (new_part f n) → ((p : PartMeaning) → p.codes ≡ f → P p → P (grown n p)) → (ps : List PartMeaning) → Each P ps → Each P (place f n ps)
+place_each P f n new grow = place_turns P P f n new grow (λ p h. h)
 
 pub place_ordered : (f : List ℕ) (n : ℕ) (ps : List PartMeaning) → Ordered ps → Ordered (place f n ps)
 place_ordered f n [] o = subst Ordered (sym (place_none f n)) (tt, tt)
@@ -72,9 +77,6 @@ pub record Found (p : PartMeaning) (ps : List PartMeaning) : Type 0 where
 one_more : (p q : PartMeaning) (ps : List PartMeaning) → Found p ps → Found p (q ∷ ps)
 one_more p q ps w = record { front = q ∷ w.front; back = w.back; whole = ap (λ (x : List PartMeaning). q ∷ x) w.whole }
 
-pub some_injective : (p q : PartMeaning) → Some p ≡ Some q → p ≡ q
-some_injective p q e = ap (λ (o : Option PartMeaning). elim o [ Some x ↦ x | None ↦ p ]) e
-
 -- the first open part
 pub found_open : (ps : List PartMeaning) (p : PartMeaning) → next_open ps ≡ Some p → Found p ps × (is_open p.mark ≡ true)
 unfolding next_open
@@ -83,7 +85,7 @@ found_open (q ∷ ps) p e = go (is_open q.mark) refl (found_open ps p)
   where
     go : (b : Bool) → is_open q.mark ≡ b → (next_open ps ≡ Some p → Found p ps × (is_open p.mark ≡ true)) → Found p (q ∷ ps) × (is_open p.mark ≡ true)
     go true h rec =
-        let s : q ≡ p = some_injective q p (sym (cond-true (is_open q.mark) (Some q) (next_open ps) h) ∙ e) in
+        let s : q ≡ p = same_Some q p (sym (cond-true (is_open q.mark) (Some q) (next_open ps) h) ∙ e) in
         (record { front = []; back = ps; whole = ap (λ (x : PartMeaning). x ∷ ps) s }, subst (λ (x : PartMeaning). is_open x.mark ≡ true) s h)
     go false h rec = let r = rec (sym (cond-false (is_open q.mark) (Some q) (next_open ps) h) ∙ e) in (one_more p q ps r.0, r.1)
 
@@ -91,7 +93,7 @@ found_open (q ∷ ps) p e = go (is_open q.mark) refl (found_open ps p)
 pub found_at : (ps : List PartMeaning) (i : ℕ) (p : PartMeaning) → part_at ps i ≡ Some p → (w : Found p ps) × (taken_at ps i ≡ w.front ++ (taken_once p ++ w.back))
 unfolding part_at taken_at one_more
 found_at [] i p e = absurd (some_none (sym e))
-found_at (q ∷ ps) zero p e = let s = some_injective q p e in (record { front = []; back = ps; whole = ap (λ (x : PartMeaning). x ∷ ps) s }, ap (λ (x : PartMeaning). taken_once x ++ ps) s)
+found_at (q ∷ ps) zero p e = let s = same_Some q p e in (record { front = []; back = ps; whole = ap (λ (x : PartMeaning). x ∷ ps) s }, ap (λ (x : PartMeaning). taken_once x ++ ps) s)
 found_at (q ∷ ps) (suc i) p e = let r = found_at ps i p e in (one_more p q ps r.0, ap (λ (x : List PartMeaning). q ∷ x) r.1)
 
 -- a list with some parts in its middle

@@ -1,9 +1,10 @@
 -- What a step finds in its buffers: the pieces of the first open part, as its kind says. They are good, short and few enough.
 -- Main statements: Begins, begins_row; RootPiece, PairPieces, the_root, the_pair, the_whole; chosen_within, few_times, part_taken.
 use Rattle.std.proofs.Common.{◌≡◌, ℕ, ◌+◌, ◌-◌, ◌*◌, ◌/◌, ◌<◌, ◌≤◌, List, length, take, drop, replicate, Some, vec_items, vec_len, sym, refl, ap, ◌∙◌, mul_comm, mul-le-mul_left, mul-div_cancel, arith}
+use Rattle.std.specs.List.{All}
 use Rattle.std.proofs.lemmas.List.{take_at, length-append}
 use Rattle.field.specs.Ring.{RingMeaning}
-use Rattle.field.specs.Field.{FieldMeaning, FieldLaws}
+use Rattle.field.specs.Field.{FieldMeaning, FieldLaws, Told}
 use Rattle.field.specs.Polynomial.{degree, Canonical}
 use Rattle.poly.specs.Faults.{most_codes}
 use Rattle.poly.specs.Calls.{written}
@@ -15,9 +16,9 @@ use Rattle.worksheet.specs.declared.parts.Worksheet.{Worksheet}
 use Rattle.worksheet.specs.Sheet.{PartMeaning, most_degree, part_at, place, without, total_degree, Each, GoodPart}
 use Rattle.worksheet.specs.Places.{Chosen}
 use Rattle.worksheet.specs.Calls.{replaced}
-use Rattle.worksheet.specs.Meaning.{sheet_of, SheetMade}
+use Rattle.worksheet.specs.Meaning.{sheet_of, SheetMade, over}
 use Rattle.worksheet.proofs.Limits.{SmallPart, small_parts}
-use Rattle.worksheet.proofs.PartsHeld.{each_held, parts_length}
+use Rattle.worksheet.proofs.PartsHeld.{all_held, parts_length}
 use Rattle.worksheet.proofs.Replacing.{each_part_at, within_at, total_at, longer_at}
 
 -- a buffer that begins with the n codes of a piece
@@ -138,22 +139,22 @@ module _ (F : FieldMeaning) (L : FieldLaws F) (ps : List PartMeaning) (good : Ea
       go whole s e = (s, e)
 
 -- the same of a worksheet that is well made
-module _ {T base : Type 0} {F : FieldMeaning} {w : Worksheet T} {i : ℕ} {a : ℕ × ℕ × ℕ} {first second : List ℕ} (made : SheetMade base F w) (chosen : Chosen F (sheet_of w).parts i a first second) where
-  pub the_root : a.0 ≡ 1 → RootPiece F made.laws (sheet_of w).parts made.good.parts made.good.fits i a first second chosen
-  the_root = root_piece F made.laws (sheet_of w).parts made.good.parts made.good.fits i a first second chosen
+module _ {T : Type 0} {t : Told T} {w : Worksheet T} {i : ℕ} {a : ℕ × ℕ × ℕ} {first second : List ℕ} (made : SheetMade t w) (chosen : Chosen (over t w) (sheet_of w).parts i a first second) where
+  pub the_root : a.0 ≡ 1 → RootPiece (over t w) made.laws (sheet_of w).parts made.good.parts made.good.fits i a first second chosen
+  the_root = root_piece (over t w) made.laws (sheet_of w).parts made.good.parts made.good.fits i a first second chosen
 
-  pub the_pair : (a.0 ≡ 1 → ⊥) → (a.0 ≡ 4 → ⊥) → PairPieces F made.laws (sheet_of w).parts made.good.parts made.good.fits i a first second chosen
-  the_pair = pair_pieces F made.laws (sheet_of w).parts made.good.parts made.good.fits i a first second chosen
+  pub the_pair : (a.0 ≡ 1 → ⊥) → (a.0 ≡ 4 → ⊥) → PairPieces (over t w) made.laws (sheet_of w).parts made.good.parts made.good.fits i a first second chosen
+  the_pair = pair_pieces (over t w) made.laws (sheet_of w).parts made.good.parts made.good.fits i a first second chosen
 
-  pub the_whole : a.0 ≡ 4 → SplitsInto F chosen.part.codes whole × (a ≡ answer F chosen.part.codes whole)
-  the_whole = whole_piece F made.laws (sheet_of w).parts made.good.parts made.good.fits i a first second chosen
+  pub the_whole : a.0 ≡ 4 → SplitsInto (over t w) chosen.part.codes whole × (a ≡ answer (over t w) chosen.part.codes whole)
+  the_whole = whole_piece (over t w) made.laws (sheet_of w).parts made.good.parts made.good.fits i a first second chosen
 
   pub chosen_within : i < vec_len w.parts
   chosen_within = omega (arith, within_at (sheet_of w).parts i chosen.part chosen.here, parts_length w.parts)
 
 -- no multiplicity of a worksheet that is well made is above 127
-pub few_times : {T base : Type 0} {F : FieldMeaning} {w : Worksheet T} → SheetMade base F w → Each (λ (x : Part). x.times ≤ most_degree) (vec_items w.parts)
-few_times {F = F} {w = w} made = each_held (SmallPart F.ring most_degree) (λ (x : Part). x.times ≤ most_degree) (λ x h. h.times) (vec_items w.parts) (small_parts F.ring (sheet_of w) made.good)
+pub few_times : {T : Type 0} {t : Told T} {w : Worksheet T} → SheetMade t w → All (λ (x : Part). x.times ≤ most_degree) (vec_items w.parts)
+few_times {t = t} {w = w} made = all_held (SmallPart (t.meaning w.field) most_degree) (λ (x : Part). x.times ≤ most_degree) (λ x h. h.times) (vec_items w.parts) (small_parts (t.meaning w.field) (sheet_of w) made.good)
 
 -- a good part of a worksheet is one that can be split
 pub part_taken : (m : RingMeaning) (ps : List PartMeaning) → Each (GoodPart m) ps → total_degree ps ≤ most_degree → (i : ℕ) (p : PartMeaning) → part_at ps i ≡ Some p → Taken m p.codes

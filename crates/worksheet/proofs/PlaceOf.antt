@@ -1,26 +1,16 @@
 -- Placing a part by its place: where the codes stand already the part there grows, and else a new part is inserted.
--- Main statements: place_within, place_grows, place_inserts; place_more, place_stop, place_all (for a loop over the parts).
-use Rattle.std.proofs.Common.{◌≡◌, ℕ, suc, ◌+◌, ◌<◌, ◌≤◌, Bool, true, false, List, [], ◌∷◌, map, length, get_or, drop, set, Some, sym, refl, ap, ◌∙◌, arith}
+-- Main statements: place_within, place_grows, place_inserts.
+use Rattle.std.proofs.Common.{◌≡◌, ℕ, suc, ◌≤◌, Bool, true, false, List, [], ◌∷◌, length, set, Some, sym, refl, ap, ◌∙◌, arith}
+use Rattle.std.proofs.lemmas.Option.{same_Some}
 use Rattle.std.specs.List.{insert}
-use Rattle.std.proofs.lemmas.List.{drop_all, length-map}
 use Rattle.std.proofs.lemmas.Bool.{cond-true, cond-false}
 use Rattle.field.specs.Checks.{same}
 use Rattle.field.specs.Ranges.{some_none}
-use Rattle.field.specs.Tests.{equal_list, list_test}
-use Rattle.worksheet.specs.declared.parts.Part.{Part}
+use Rattle.field.specs.Tests.{list_test}
 use Rattle.worksheet.specs.Sheet.{PartMeaning, new_part, grown, before, place, part_at}
 use Rattle.worksheet.specs.Places.{place_of}
-use Rattle.worksheet.specs.Meaning.{part_of}
 use Rattle.worksheet.proofs.PartOrder.{before_apart}
-use Rattle.worksheet.proofs.PartLists.{some_injective}
-use Rattle.worksheet.proofs.PartsHeld.{drop_part}
-
-other : (f g : List ℕ) → (f ≡ g → ⊥) → same f g ≡ false
-other f g n = go (same f g) refl
-  where
-    go : (b : Bool) → same f g ≡ b → same f g ≡ false
-    go true e = absurd (n (equal_list f g e))
-    go false e = e
+use Rattle.worksheet.proofs.PartLists.{not_same}
 
 module _ (f : List ℕ) (p : PartMeaning) (ps : List PartMeaning) where
   pub place_on : before p.codes f ≡ true → place_of f (p ∷ ps) ≡ suc (place_of f ps)
@@ -47,7 +37,7 @@ module _ (f : List ℕ) (n : ℕ) where
   -- placing where the first part is before f, has the codes f, or is neither
   passes : (p : PartMeaning) (ps : List PartMeaning) → before p.codes f ≡ true → place f n (p ∷ ps) ≡ p ∷ place f n ps
   unfolding place
-  passes p ps h = cond-false (same p.codes f) _ _ (other p.codes f (before_apart p.codes f h)) ∙ cond-true (before p.codes f) _ _ h
+  passes p ps h = cond-false (same p.codes f) _ _ (not_same p.codes f (before_apart p.codes f h)) ∙ cond-true (before p.codes f) _ _ h
 
   grows : (p : PartMeaning) (ps : List PartMeaning) → p.codes ≡ f → place f n (p ∷ ps) ≡ grown n p ∷ ps
   unfolding place
@@ -55,7 +45,7 @@ module _ (f : List ℕ) (n : ℕ) where
 
   starts : (p : PartMeaning) (ps : List PartMeaning) → (p.codes ≡ f → ⊥) → before p.codes f ≡ false → place f n (p ∷ ps) ≡ new_part f n ∷ p ∷ ps
   unfolding place
-  starts p ps e h = cond-false (same p.codes f) _ _ (other p.codes f e) ∙ cond-false (before p.codes f) _ _ h
+  starts p ps e h = cond-false (same p.codes f) _ _ (not_same p.codes f e) ∙ cond-false (before p.codes f) _ _ h
 
   alone : place f n [] ≡ new_part f n ∷ []
   unfolding place
@@ -72,7 +62,7 @@ module _ (f : List ℕ) (n : ℕ) where
           passes q ps h ∙ ap (λ (x : List PartMeaning). q ∷ x) (rec (sym (ap (part_at (q ∷ ps)) s) ∙ a) e) ∙ sym (ap (λ i. set (q ∷ ps) i (grown n p)) s)
       go false h rec =
           let s = place_here f q ps h in
-          let i = some_injective q p (sym (ap (part_at (q ∷ ps)) s) ∙ a) in
+          let i = same_Some q p (sym (ap (part_at (q ∷ ps)) s) ∙ a) in
           grows q ps (ap (λ (x : PartMeaning). x.codes) i ∙ e) ∙ ap (λ (x : PartMeaning). grown n x ∷ ps) i ∙ sym (ap (λ k. set (q ∷ ps) k (grown n p)) s)
 
   pub place_inserts : (ps : List PartMeaning) → ((p : PartMeaning) → part_at ps (place_of f ps) ≡ Some p → p.codes ≡ f → ⊥) → place f n ps ≡ insert ps (place_of f ps) (new_part f n)
@@ -87,14 +77,3 @@ module _ (f : List ℕ) (n : ℕ) where
       go false h rec =
           let s = place_here f q ps h in
           starts q ps (a q (ap (part_at (q ∷ ps)) s)) h ∙ sym (ap (λ i. insert (q ∷ ps) i (new_part f n)) s)
-
--- what a loop over the parts knows of the place of f
-module _ (f : List ℕ) (xs : List Part) (i : ℕ) where
-  pub place_more : (x : Part) → i < length xs → x ≡ get_or xs i x → before (part_of x).codes f ≡ true → place_of f (drop i (map part_of xs)) ≡ suc (place_of f (drop (i + 1) (map part_of xs)))
-  place_more x h e b = ap (place_of f) (drop_part xs i x h e) ∙ place_on f (part_of x) _ b
-
-  pub place_stop : (x : Part) → i < length xs → x ≡ get_or xs i x → before (part_of x).codes f ≡ false → place_of f (drop i (map part_of xs)) ≡ 0
-  place_stop x h e b = ap (place_of f) (drop_part xs i x h e) ∙ place_here f (part_of x) _ b
-
-  pub place_all : length xs ≤ i → place_of f (drop i (map part_of xs)) ≡ 0
-  place_all h = ap (place_of f) (drop_all i (map part_of xs) (omega (arith, length-map xs part_of))) ∙ place_end f

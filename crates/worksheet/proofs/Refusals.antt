@@ -1,8 +1,9 @@
 -- What the checks of the calls come to: an entry, what is taken or read, and a step.
 -- Main statements: entry_passes, entry_taken; take_open, take_as_read; read_none, read_short, read_fits, read_some; gives_at, tells_at;
 -- step_none, step_short, step_fits.
-use Rattle.std.proofs.Common.{◌≡◌, ℕ, ◌+◌, ◌<◌, ◌≤◌, Bool, true, false, not, leb, List, length, Some, None, Option, sym, refl, ap, ◌∙◌, subst, le-leb, leb-true}
+use Rattle.std.proofs.Common.{◌≡◌, ℕ, ◌+◌, ◌<◌, ◌≤◌, Bool, true, false, not, eqb, leb, List, [], ◌∷◌, length, Some, None, Option, sym, refl, ap, ◌∙◌, subst, le-leb, leb-true, ne_eqb, arith}
 use borrow.Author.Tests.{lt-leb, clash}
+use Rattle.std.proofs.lemmas.Bool.{and_left}
 use Rattle.field.specs.Checks.{unless, ◌or_else◌}
 use Rattle.field.specs.Ring.{RingMeaning}
 use Rattle.field.specs.Polynomial.{degree}
@@ -25,9 +26,14 @@ none_passed : (o : Option PolyFault) → passed_on o ≡ None → o ≡ None
 none_passed None e = refl
 none_passed (Some x) e = absurd (some_none e)
 
+nonzero : (f : List ℕ) → (f ≡ 0 ∷ [] → ⊥) → is_zero f ≡ false
+nonzero [] n = refl
+nonzero (x ∷ []) n = ne_eqb x 0 (λ e. n (ap (λ y. y ∷ []) e))
+nonzero (x ∷ y ∷ f) n = and_left (eqb (length (x ∷ y ∷ f)) 1) _ (ne_eqb (length (x ∷ y ∷ f)) 1 (λ e. omega arith))
+
 module _ (m : RingMeaning) (s : SheetMeaning) (f : List ℕ) where
-  pub entry_passes : operand_refusal m f ≡ None → is_zero f ≡ false → total_degree s.parts + degree f ≤ most_degree → enter_refusal m s f ≡ None
-  entry_passes p q h = all_pass (operand_refusal m f) (is_zero f) (leb (total_degree s.parts + degree f) most_degree) p q (le-leb _ _ h)
+  pub entry_passes : operand_refusal m f ≡ None → (f ≡ 0 ∷ [] → ⊥) → total_degree s.parts + degree f ≤ most_degree → enter_refusal m s f ≡ None
+  entry_passes p q h = all_pass (operand_refusal m f) (is_zero f) (leb (total_degree s.parts + degree f) most_degree) p (nonzero f q) (le-leb _ _ h)
 
   pub entry_taken : enter_refusal m s f ≡ None → (operand_refusal m f ≡ None) × (total_degree s.parts + degree f ≤ most_degree)
   entry_taken e = (none_passed (operand_refusal m f) (first_none first rest e), leb-true _ _ (passed _ TotalDegree (second_none zero long (second_none first rest e))))

@@ -1,19 +1,20 @@
 -- The part at a place, taken out, settled or replaced by its pieces; how many parts and how large multiplicities that makes.
--- Main statements: each_part_at, within_at, without_at, settle_at, total_at, longer_at; place_turns, place_longer.
+-- Main statements: each_part_at, within_at, without_at, settle_at, total_at, longer_at; place_longer.
 use Rattle.std.proofs.Common.{◌≡◌, ℕ, zero, suc, ◌+◌, ◌*◌, ◌<◌, ◌≤◌, List, [], ◌∷◌, ◌++◌, length, take, drop, set, Some, sym, refl, ap, ◌∙◌, subst, inl, inr, mul-le-mul_left, arith}
+use Rattle.std.proofs.lemmas.Option.{same_Some}
 use Rattle.std.specs.List.{remove}
 use Rattle.field.specs.Ring.{RingMeaning}
 use Rattle.field.specs.Polynomial.{degree}
 use Rattle.field.specs.Ranges.{some_none}
-use Rattle.worksheet.specs.Sheet.{PartMeaning, new_part, grown, place, without, settle, settled, part_at, total_degree, Each, GoodPart, Ordered}
+use Rattle.worksheet.specs.Sheet.{PartMeaning, place, without, settle, settled, part_at, total_degree, Each, GoodPart, Ordered}
 use Rattle.worksheet.proofs.Limits.{parts_degree}
 use Rattle.worksheet.proofs.Measures.{degree_cons}
-use Rattle.worksheet.proofs.PartLists.{PlaceView, place_view, place_none, some_injective, without_found, settle_found}
+use Rattle.worksheet.proofs.PartLists.{PlaceView, place_view, place_none, without_found, settle_found}
 
 pub each_part_at : (P : PartMeaning → Type 0) (ps : List PartMeaning) (i : ℕ) (p : PartMeaning) → part_at ps i ≡ Some p → Each P ps → P p
 unfolding part_at
 each_part_at P [] i p e a = absurd (some_none (sym e))
-each_part_at P (q ∷ ps) zero p e a = subst P (some_injective q p e) a.0
+each_part_at P (q ∷ ps) zero p e a = subst P (same_Some q p e) a.0
 each_part_at P (q ∷ ps) (suc i) p e a = each_part_at P ps i p e a.1
 
 pub within_at : (ps : List PartMeaning) (i : ℕ) (p : PartMeaning) → part_at ps i ≡ Some p → i < length ps
@@ -26,7 +27,7 @@ within_at (q ∷ ps) (suc i) p e = omega (arith, within_at ps i p e)
 parted : (ps : List PartMeaning) (i : ℕ) (p : PartMeaning) → part_at ps i ≡ Some p → ps ≡ take i ps ++ p ∷ drop (suc i) ps
 unfolding part_at
 parted [] i p e = absurd (some_none (sym e))
-parted (q ∷ ps) zero p e = ap (λ (x : PartMeaning). x ∷ ps) (some_injective q p e)
+parted (q ∷ ps) zero p e = ap (λ (x : PartMeaning). x ∷ ps) (same_Some q p e)
 parted (q ∷ ps) (suc i) p e = ap (λ (x : List PartMeaning). q ∷ x) (parted ps i p e)
 
 set_parted : (ps : List PartMeaning) (i : ℕ) (p x : PartMeaning) → part_at ps i ≡ Some p → set ps i x ≡ take i ps ++ x ∷ drop (suc i) ps
@@ -47,7 +48,7 @@ module _ (ps : List PartMeaning) (i : ℕ) (p : PartMeaning) (here : part_at ps 
 pub total_at : (ps : List PartMeaning) (i : ℕ) (p : PartMeaning) → part_at ps i ≡ Some p → degree p.codes * p.times ≤ total_degree ps
 unfolding part_at
 total_at [] i p e = absurd (some_none (sym e))
-total_at (q ∷ ps) zero p e = omega (arith, degree_cons q ps, ap (λ (x : PartMeaning). degree x.codes * x.times) (some_injective q p e))
+total_at (q ∷ ps) zero p e = omega (arith, degree_cons q ps, ap (λ (x : PartMeaning). degree x.codes * x.times) (same_Some q p e))
 total_at (q ∷ ps) (suc i) p e = omega (arith, degree_cons q ps, total_at ps i p e)
 
 -- a part of degree above 1 leaves room for another
@@ -55,24 +56,10 @@ pub longer_at : (m : RingMeaning) (ps : List PartMeaning) (i : ℕ) (p : PartMea
 unfolding part_at
 longer_at m [] i p e a h = absurd (some_none (sym e))
 longer_at m (q ∷ ps) zero p e a h =
-    let two : 2 ≤ degree q.codes = subst (λ (x : PartMeaning). 2 ≤ degree x.codes) (sym (some_injective q p e)) h in
+    let two : 2 ≤ degree q.codes = subst (λ (x : PartMeaning). 2 ≤ degree x.codes) (sym (same_Some q p e)) h in
     omega (arith, degree_cons q ps, parts_degree m ps a.1, mul-le-mul_left (degree q.codes) a.0.times)
 longer_at m (q ∷ ps) (suc i) p e a h =
     omega (arith, degree_cons q ps, longer_at m ps i p e a.1 h, mul-le-mul_left (degree q.codes) a.0.times, a.0.positive)
-
--- what holds of each part after placing, from what held before
-pub place_turns : (P Q : PartMeaning → Type 0) (f : List ℕ) (n : ℕ) → Q (new_part f n) → ((p : PartMeaning) → P p → Q (grown n p)) → ((p : PartMeaning) → P p → Q p) → (ps : List PartMeaning) → Each P ps → Each Q (place f n ps)
-place_turns P Q f n new grow stay [] a = subst (Each Q) (sym (place_none f n)) (new, tt)
-place_turns P Q f n new grow stay (p ∷ ps) a = go (place_view f n p ps) (place_turns P Q f n new grow stay ps a.1)
-  where
-    all : (qs : List PartMeaning) → Each P qs → Each Q qs
-    all [] b = tt
-    all (q ∷ qs) b = (stay q b.0, all qs b.1)
-
-    go : PlaceView f n p ps → Each Q (place f n ps) → Each Q (place f n (p ∷ ps))
-    go (inl v) rec = subst (Each Q) (sym v.1) (grow p a.0, all ps a.1)
-    go (inr (inl v)) rec = subst (Each Q) (sym v.1) (stay p a.0, rec)
-    go (inr (inr v)) rec = subst (Each Q) (sym v.1) (new, (stay p a.0, all ps a.1))
 
 pub place_longer : (f : List ℕ) (n : ℕ) (ps : List PartMeaning) → length (place f n ps) ≤ length ps + 1
 place_longer f n [] = omega (arith, ap length (place_none f n))

@@ -1,6 +1,7 @@
 -- An accepted step keeps what a worksheet holds and lowers its weight; it settles a part exactly if that does not split.
 -- Main statements: step_kept, step_settles.
 use Rattle.std.proofs.Common.{◌≡◌, ℕ, ◌+◌, ◌-◌, ◌*◌, ◌<◌, ◌≤◌, true, ◌↔◌, List, [], ◌∷◌, ◌++◌, Some, Ok, sym, refl, ap, ◌∙◌, subst, ap₂, inl, inr, mul_comm as times_comm, mul-le-mul_left, arith}
+use Rattle.std.proofs.lemmas.Option.{same_Some}
 use Rattle.std.proofs.lemmas.Bool.{cond-true}
 use Rattle.algebra.specs.Ring.{Ring}
 use Rattle.algebra.specs.Powers.{pow}
@@ -18,7 +19,7 @@ use Rattle.worksheet.specs.Sheet.{PartMeaning, SheetMeaning, place, without, set
 use Rattle.worksheet.specs.Calls.{replaced, Replaces, Stepped}
 use Rattle.worksheet.specs.Law.{most_steps}
 use Rattle.worksheet.proofs.EachOf.{each_back}
-use Rattle.worksheet.proofs.PartLists.{Found, found_open, without_found, settle_found, some_injective}
+use Rattle.worksheet.proofs.PartLists.{Found, found_open, without_found, settle_found}
 use Rattle.worksheet.proofs.Measures.{degree_place, degree_append, degree_cons, asks, weight, weight_place, weight_append, weight_cons, worth, worth_place, worth_append, worth_cons}
 use Rattle.worksheet.proofs.FineParts.{Fine, fine_of, fine_place, fine_middle, Rest, rest_of}
 use Rattle.worksheet.proofs.Keeping.{poly, Ps, unit_of, product_all, Sound, Kept}
@@ -166,7 +167,7 @@ module _ (F : FieldMeaning) (L : FieldLaws F) where
       r = w.1
 
       same : r.part ≡ p
-      same = some_injective r.part p (sym r.next ∙ e)
+      same = same_Some r.part p (sym r.next ∙ e)
 
       v : Found r.part s.parts
       v = (found_open s.parts r.part r.next).0

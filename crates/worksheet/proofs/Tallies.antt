@@ -1,55 +1,84 @@
--- What is counted and sought over the parts in memory, part by part: the total degree, the open parts, and the first of them.
--- Main statements: degree_more, degree_all, opens_more, opens_all, next_here, next_more, next_all.
-use Rattle.std.proofs.Common.{◌≡◌, ℕ, ◌+◌, ◌-◌, ◌*◌, ◌<◌, ◌≤◌, true, false, cond, List, [], ◌∷◌, map, length, get_or, drop, Some, None, refl, ap, ◌∙◌, arith}
-use Rattle.std.proofs.lemmas.List.{drop_all, length-map}
-use Rattle.std.proofs.lemmas.Bool.{cond-true, cond-false}
+-- What is counted and sought over the parts in memory, in the library's words for lists.
+-- Main statements: total_is, opens_is, first_is, place_is, got, got_and.
+use Rattle.std.proofs.Common.{◌≡◌, ℕ, suc, ◌+◌, ◌*◌, ◌<◌, ◌≤◌, Bool, true, false, not, cond, ltb, List, [], ◌∷◌, map, length, get_or, Some, None, Option, sym, refl, ap, ◌∙◌, inl, inr, ◌⊎◌, arith, Bor}
+use borrow.Author.Tests.{ltb-true, ltb-false}
+use Rattle.std.specs.List.{sum_by, filter, position_or_len}
+use Rattle.std.specs.Option.{MatchOption, IfSome, is_some, option_map, unwrap_or}
+use Rattle.std.proofs.lemmas.List.Recursion.{is_sum_by, is_position_or_len}
+use Rattle.std.proofs.lemmas.List.Sums.{length-filter, prefix_len-le-length}
+use Rattle.std.proofs.lemmas.Bool.{cases_lt, lt-ltb, le-ltb}
+use Rattle.field.specs.Polynomial.{degree}
 use Rattle.worksheet.specs.declared.parts.Part.{Part}
-use Rattle.worksheet.specs.Sheet.{PartMeaning, is_open, next_open, open_count, total_degree}
-use Rattle.worksheet.specs.Meaning.{part_of, Sized}
-use Rattle.worksheet.proofs.Measures.{degree_cons, degree_nil}
-use Rattle.worksheet.proofs.PartsHeld.{drop_part, row_length}
+use Rattle.worksheet.specs.Sheet.{PartMeaning, before, is_open, next_open, open_count, part_at, total_degree}
+use Rattle.worksheet.specs.Places.{place_of}
+use Rattle.worksheet.specs.Meaning.{part_of}
+use Rattle.worksheet.proofs.PartsHeld.{at_part, no_part}
 
-opens_cons : (p : PartMeaning) (ps : List PartMeaning) → open_count (p ∷ ps) ≡ cond (is_open p.mark) 1 0 + open_count ps
+-- degree times multiplicity
+abbrev pub weighed : Part → ℕ
+weighed x = degree (part_of x).codes * x.times
+
+pub total_is : (xs : List Part) → total_degree (map part_of xs) ≡ sum_by weighed xs
+unfolding total_degree
+total_is = is_sum_by (λ xs. total_degree (map part_of xs)) weighed refl (λ _ _. refl)
+
+abbrev pub opened : Part → Bool
+opened x = is_open x.mark
+
+pub opens_is : (xs : List Part) → open_count (map part_of xs) ≡ length (filter opened xs)
 unfolding open_count
-opens_cons p ps = refl
+opens_is xs = is_sum_by (λ xs. open_count (map part_of xs)) (λ x. cond (opened x) 1 0) refl (λ _ _. refl) xs ∙ sym (length-filter opened xs)
 
-opens_nil : open_count [] ≡ 0
-unfolding open_count
-opens_nil = refl
+next_at : (xs : List Part) → part_at (map part_of xs) (position_or_len opened xs) ≡ next_open (map part_of xs)
+unfolding part_at next_open
+next_at [] = refl
+next_at (x ∷ xs) = go (opened x) (next_at xs)
+  where
+    go : (b : Bool) → part_at (map part_of xs) (position_or_len opened xs) ≡ next_open (map part_of xs) → part_at (map part_of (x ∷ xs)) (cond (not b) (1 + position_or_len opened xs) 0) ≡ cond b (Some (part_of x)) (next_open (map part_of xs))
+    go true h = refl
+    go false h =
+        let e : 1 + position_or_len opened xs ≡ suc (position_or_len opened xs) = omega arith in
+        ap (part_at (part_of x ∷ map part_of xs)) e ∙ h
 
-module _ (xs : List Part) (i : ℕ) where
-  pub degree_more : (x : Part) → i < length xs → x ≡ get_or xs i x → Sized x → total_degree (drop i (map part_of xs)) ≡ (x.length - 1) * x.times + total_degree (drop (i + 1) (map part_of xs))
-  degree_more x h e s =
-      ap total_degree (drop_part xs i x h e) ∙ degree_cons (part_of x) _
-      ∙ ap (λ n. (n - 1) * x.times + total_degree (drop (i + 1) (map part_of xs))) (row_length x s)
+-- what `position` answers for the first open part
+pub first_is : (xs : List Part) (r : Option ℕ) → r ≡ cond (ltb (position_or_len opened xs) (length xs)) (Some (position_or_len opened xs)) None → MatchOption r (next_open (map part_of xs) ≡ None) (λ i. (i < length xs) × (part_at (map part_of xs) i ≡ next_open (map part_of xs)))
+first_is xs r e = go (cases_lt (position_or_len opened xs) (length xs))
+  where
+    n : ℕ
+    n = position_or_len opened xs
 
-  pub degree_all : length xs ≤ i → total_degree (drop i (map part_of xs)) ≡ 0
-  degree_all h = ap total_degree (drop_all i (map part_of xs) (omega (arith, length-map xs part_of))) ∙ degree_nil
+    go : (n < length xs) ⊎ (length xs ≤ n) → MatchOption r (next_open (map part_of xs) ≡ None) (λ i. (i < length xs) × (part_at (map part_of xs) i ≡ next_open (map part_of xs)))
+    go (inl h) = rw (e, lt-ltb n (length xs) h) (h, next_at xs)
+    go (inr h) = rw (e, le-ltb n (length xs) h) (sym (next_at xs) ∙ no_part xs n h)
 
-  pub opens_more : (x : Part) → i < length xs → x ≡ get_or xs i x → open_count (drop i (map part_of xs)) ≡ cond (is_open x.mark) 1 0 + open_count (drop (i + 1) (map part_of xs))
-  opens_more x h e = ap open_count (drop_part xs i x h e) ∙ opens_cons (part_of x) _
+abbrev pub stops : List ℕ → Part → Bool
+stops f x = not (before (part_of x).codes f)
 
-  pub opens_all : length xs ≤ i → open_count (drop i (map part_of xs)) ≡ 0
-  opens_all h = ap open_count (drop_all i (map part_of xs) (omega (arith, length-map xs part_of))) ∙ opens_nil
+pub place_is : (f : List ℕ) (xs : List Part) → place_of f (map part_of xs) ≡ position_or_len (stops f) xs
+unfolding place_of
+place_is f = is_position_or_len (λ xs. place_of f (map part_of xs)) (stops f) refl (λ x xs. go (before (part_of x).codes f) (place_of f (map part_of xs)))
+  where
+    go : (b : Bool) (n : ℕ) → cond b (suc n) 0 ≡ cond (not b) 0 (1 + n)
+    go true n = omega arith
+    go false n = refl
 
-next_found : (p : PartMeaning) (ps : List PartMeaning) → is_open p.mark ≡ true → next_open (p ∷ ps) ≡ Some p
-unfolding next_open
-next_found p ps e = cond-true (is_open p.mark) (Some p) (next_open ps) e
+-- what `position` answers, or the length
+pub position_is : (f : List ℕ) (xs : List Part) (r : Option ℕ) → r ≡ cond (ltb (position_or_len (stops f) xs) (length xs)) (Some (position_or_len (stops f) xs)) None → unwrap_or r (length xs) ≡ place_of f (map part_of xs)
+position_is f xs r e = go (cases_lt n (length xs)) ∙ sym (place_is f xs)
+  where
+    n : ℕ
+    n = position_or_len (stops f) xs
 
-next_on : (p : PartMeaning) (ps : List PartMeaning) → is_open p.mark ≡ false → next_open (p ∷ ps) ≡ next_open ps
-unfolding next_open
-next_on p ps e = cond-false (is_open p.mark) (Some p) (next_open ps) e
+    go : (n < length xs) ⊎ (length xs ≤ n) → unwrap_or r (length xs) ≡ n
+    go (inl h) = rw (e, lt-ltb n (length xs) h)
+    go (inr h) = rw (e, le-ltb n (length xs) h) (omega (arith, prefix_len-le-length (λ x. not (stops f x)) xs))
 
-next_nil : next_open [] ≡ None
-unfolding next_open
-next_nil = refl
+-- what `get` answers for the part at place i
+pub got : (xs : List Part) (i : ℕ) (r : Option (Bor Part)) → is_some r ≡ ltb i (length xs) → IfSome r (λ x. x.now ≡ get_or xs i x.now) → part_at (map part_of xs) i ≡ option_map (λ x. part_of x.now) r
+got xs i None e h = no_part xs i (ltb-false i (length xs) (sym e))
+got xs i (Some x) e h = at_part xs i x.now (ltb-true i (length xs) (sym e)) h
 
-module _ (xs : List Part) (i : ℕ) where
-  pub next_here : (x : Part) → i < length xs → x ≡ get_or xs i x → is_open x.mark ≡ true → next_open (drop i (map part_of xs)) ≡ Some (part_of x)
-  next_here x h e o = ap next_open (drop_part xs i x h e) ∙ next_found (part_of x) _ o
-
-  pub next_more : (x : Part) → i < length xs → x ≡ get_or xs i x → is_open x.mark ≡ false → next_open (drop i (map part_of xs)) ≡ next_open (drop (i + 1) (map part_of xs))
-  next_more x h e o = ap next_open (drop_part xs i x h e) ∙ next_on (part_of x) _ o
-
-  pub next_all : length xs ≤ i → next_open (drop i (map part_of xs)) ≡ None
-  next_all h = ap next_open (drop_all i (map part_of xs) (omega (arith, length-map xs part_of))) ∙ next_nil
+-- what `is_some_and` answers then, of a test of the part
+pub got_and : {Q : Bor Part → Type 0} (test : Option PartMeaning → Bool) (r : Option (Bor Part)) (b : Bool) → test None ≡ false → MatchOption r (b ≡ false) Q → ((x : Bor Part) → Q x → b ≡ test (Some (part_of x.now))) → b ≡ test (option_map (λ x. part_of x.now) r)
+got_and test None b n h q = h ∙ sym n
+got_and test (Some x) b n h q = q x h

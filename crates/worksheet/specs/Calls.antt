@@ -5,6 +5,8 @@ use Rattle.field.specs.Ring.{RingMeaning}
 use Rattle.field.specs.Field.{FieldMeaning}
 use Rattle.field.specs.Polynomial.{degree, leading}
 use Rattle.poly.specs.Calls.{written}
+use Rattle.split.specs.declared.kind.Kind.{Kind}
+use Rattle.split.specs.Kinds.{numbered}
 use Rattle.split.specs.Splitting.{Splitting, root, repeated, shifted, whole, SplitsInto, answer, scratch_size, wiped}
 use Rattle.worksheet.specs.declared.parts.Mark.{Mark}
 use Rattle.worksheet.specs.declared.fault.SheetFault.{SheetFault}
@@ -49,6 +51,11 @@ pub record Replaces (F : FieldMeaning) (s : SheetMeaning) (a : ℕ × ℕ × ℕ
   pub answers : a ≡ answer F part.codes splitting
   pub unit : t.unit ≡ s.unit
   pub parts : t.parts ≡ replaced F part splitting s.parts
+
+-- what a step answers, with the number of its kind
+abbrev pub told : Result (Kind × ℕ × ℕ) SheetFault → Result (ℕ × ℕ × ℕ) SheetFault
+told (Ok a) = Ok (numbered a)
+told (Err e) = Err e
 
 -- how many codes of scratch a step on this part uses
 abbrev pub scratch_of : Option PartMeaning → ℕ

@@ -1,5 +1,5 @@
 -- Why a call on a worksheet is stopped, in the order of checking.
-use Rattle.std.specs.Prelude.{◌≡◌, ℕ, ◌+◌, not, List, length, Some, None, Ok, Err, Option, Result, nat_le}
+use Rattle.std.specs.Prelude.{ℕ, ◌+◌, not, List, length, Some, None, Option, nat_le}
 use Rattle.field.specs.Checks.{unless, ◌or_else◌}
 use Rattle.field.specs.Ring.{RingMeaning}
 use Rattle.field.specs.Polynomial.{degree}
@@ -82,8 +82,3 @@ take_refusal s i buffer = of_part (part_at s.parts i) (λ p. unless (not (is_ope
 -- To read the part at place i: 24, then 14.
 abbrev pub read_refusal : SheetMeaning → ℕ → List ℕ → Option SheetFault
 read_refusal s i buffer = of_part (part_at s.parts i) (buffer_refusal buffer)
-
--- a check answers its refusal, or, where there is none, nothing more
-abbrev pub Passes : {A : Type 0} → Option SheetFault → Result A SheetFault → Type 0
-Passes refusal (Ok x) = refusal ≡ None
-Passes refusal (Err e) = refusal ≡ Some e

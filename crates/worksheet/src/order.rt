@@ -1,36 +1,37 @@
 // Marks, the codes of a part, and the order of parts.
-ghost use Rattle.std.specs.Prelude.{◌≡◌, ◌<◌, ◌≤◌, length};
+ghost use Rattle.std.specs.Prelude.{◌≡◌, ◌<◌, ◌≤◌, length, reverse};
+ghost use Rattle.std.specs.Ordering.{nat_cmp};
+ghost use Rattle.std.specs.Cmp.Lexicographic.{slice_cmp};
+ghost use Rattle.field.specs.Polynomial.{degree};
 ghost use Rattle.poly.specs.Faults.{most_codes};
 ghost use Rattle.worksheet.specs.Sheet.{before, new_part, is_open};
-ghost use Rattle.worksheet.specs.Meaning.{part_of, Sized};
+ghost use Rattle.worksheet.specs.Meaning.{part_of};
 
 use crate::parts::{Mark, Part};
 use poly::MOST_CODES;
+use std::cmp::Ordering;
 
 impl Mark {
     // Whether the part may still split.
     pub fn is_open(self) -> bool
         ensures { result ≡ is_open self }
     {
-        match self {
-            Mark::Open => true,
-            Mark::Settled => false,
-        }
+        matches!(self, Mark::Open)
     }
 }
 
 impl Part {
     // An open part with these codes.
     pub(crate) fn open(row: &[u16], times: u32) -> Part
-        requires { (0 < length row.now) × (length row.now ≤ most_codes) }
-        ensures means { part_of result ≡ new_part row.now times }
-        ensures sized { Sized result }
+        requires some { 0 < length row.now }
+        requires short { length row.now ≤ most_codes }
+        ensures { part_of result ≡ new_part row.now times }
     {
         let mut codes = [0u16; MOST_CODES];
         codes[..row.len()].copy_from_slice(row);
         Part {
             codes,
-            length: row.len(),
+            len: row.len(),
             times,
             mark: Mark::Open,
         }
@@ -40,7 +41,14 @@ impl Part {
     pub fn codes(&self) -> &[u16]
         ensures { result.now ≡ (part_of self.now).codes }
     {
-        &self.codes[0..self.length.min(MOST_CODES)]
+        &self.codes[..self.len]
+    }
+
+    // The degree of the part.
+    pub(crate) fn degree(&self) -> usize
+        ensures { result ≡ degree (part_of self.now).codes }
+    {
+        self.len - 1
     }
 
     // The multiplicity of the part.
@@ -62,13 +70,15 @@ impl Part {
 pub(crate) fn stands_before(a: &[u16], b: &[u16]) -> bool
     ensures { result ≡ before a.now b.now }
 {
-    if a.len() != b.len() {
-        return a.len() < b.len();
-    }
-    for i in (0..a.len()).rev() {
-        if a[i] != b[i] {
-            return a[i] < b[i];
-        }
-    }
-    false
+    a.len()
+        .cmp(&b.len())
+        .then_with(|| compare_codes(a, b))
+        .is_lt()
+}
+
+// How the codes a stand to b from the highest down.
+fn compare_codes(a: &[u16], b: &[u16]) -> Ordering
+    ensures { result ≡ slice_cmp nat_cmp (reverse a.now) (reverse b.now) }
+{
+    a.iter().rev().cmp(b.iter().rev())
 }

@@ -1,8 +1,7 @@
 // What a worksheet tells of itself.
 ghost use Rattle.std.specs.Prelude.{◌≡◌, ◌≤◌, map, length};
-ghost use Rattle.field.specs.Field.{means};
-ghost use Rattle.worksheet.specs.Sheet.{Each, most_degree, total_degree, open_count};
-ghost use Rattle.worksheet.specs.Meaning.{part_of, sheet_of, Sized, SheetMade};
+ghost use Rattle.worksheet.specs.Sheet.{most_degree, total_degree, open_count};
+ghost use Rattle.worksheet.specs.Meaning.{part_of, sheet_of, SheetMade};
 
 use crate::parts::{Part, Worksheet};
 use field::Field;
@@ -26,14 +25,14 @@ impl<F> Worksheet<F> {
     pub fn open_count(&self) -> usize
         ensures { result ≡ open_count (sheet_of self.now).parts }
     {
-        count_open(self.parts.as_slice())
+        count_open(&self.parts)
     }
 }
 
 impl<F: Field> Worksheet<F> {
     // The order of the field.
     pub fn order(&self) -> u32
-        requires { SheetMade (F.made self.now.field) (means (F.meaning self.now.field) (F.extras self.now.field)) self.now }
+        requires { SheetMade F.Field self.now }
         ensures { result ≡ (F.meaning self.now.field).order }
     {
         self.field.order()
@@ -52,24 +51,16 @@ impl<F: Field> Worksheet<F> {
 fn count_open(parts: &[Part]) -> usize
     ensures { result ≡ open_count (map part_of parts.now) }
 {
-    let mut count = 0;
-    for part in parts {
-        if part.mark.is_open() {
-            count += 1;
-        }
-    }
-    count
+    parts.iter().filter(|part| part.mark.is_open()).count()
 }
 
 // The sum of degree times multiplicity over the parts.
 pub(crate) fn degree_of(parts: &[Part]) -> usize
-    requires sized { Each Sized parts.now }
-    requires small { total_degree (map part_of parts.now) ≤ most_degree }
+    requires { total_degree (map part_of parts.now) ≤ most_degree }
     ensures { result ≡ total_degree (map part_of parts.now) }
 {
-    let mut sum = 0;
-    for part in parts {
-        sum += (part.length - 1) * part.times as usize;
-    }
-    sum
+    parts
+        .iter()
+        .map(|part| part.degree() * part.times as usize)
+        .sum()
 }

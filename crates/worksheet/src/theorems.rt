@@ -2,22 +2,16 @@
 ghost use Rattle.worksheet.specs.Law.{Law, CallsKeep, OneStep};
 
 // The law of splitting, over every list of calls.
-pub fn law_of_splitting() -> u8
+pub fn law_of_splitting()
     ensures { Law }
-{
-    0
-}
+{}
 
 // Each call keeps what every worksheet keeps.
-pub fn calls_keep() -> u8
+pub fn calls_keep()
     ensures { CallsKeep }
-{
-    0
-}
+{}
 
 // A step has one outcome, and one only.
-pub fn one_step() -> u8
+pub fn one_step()
     ensures { OneStep }
-{
-    0
-}
+{}

@@ -1,23 +1,10 @@
-use Rattle.std.proofs.Common.{get_or, sym, ◌∙◌, arith}
-use Rattle.std.proofs.lemmas.List.{get_or_default}
-use Rattle.worksheet.proofs.PartsHeld.{blank, at_part}
-use Rattle.worksheet.proofs.Tallies.{next_here, next_more, next_all}
+use Rattle.std.proofs.Common.{rules, tests}
+use Rattle.std.proofs.lemmas.Iterator.{YieldsList-from_slice}
+use Rattle.std.proofs.lemmas.Iterator.Search.{position_from_yields_List}
+use Rattle.worksheet.proofs.Tallies.{opened, first_is}
 use Rattle.worksheet.proofs.step.first_open.Goals as goal
 
-pub returns-then-is_open : goal.returns-then-is_open
-returns-then-is_open c =
-    let xs = c.args.parts.now in
-    let i = c.loop-i.i in
-    let x = get_or xs i blank in
-    let e = get_or_default xs i blank x (omega arith) in
-    (omega arith, at_part xs i x (omega arith) e ∙ sym (c.loop-i.invariant ∙ next_here xs i x (omega arith) e (sym c.is_open.ensures ∙ c.if-is_open.true)))
-
-pub loop-i-preserved : goal.loop-i-preserved
-loop-i-preserved c =
-    let xs = c.args.parts.now in
-    let i = c.loop-i.i in
-    let x = get_or xs i blank in
-    c.loop-i.invariant ∙ next_more xs i x (omega arith) (get_or_default xs i blank x (omega arith)) (sym c.is_open.ensures ∙ c.if-is_open.false)
-
 pub returns : goal.returns
-returns c = c.loop-i.invariant ∙ next_all c.args.parts.now c.loop-i.i (omega arith)
+returns c =
+    let xs = c.args.parts.now in
+    first_is xs c.position.result (position_from_yields_List opened _ _ _ c.position.ensures.ran (YieldsList-from_slice xs cc) (λ x b q k. search (rules, tests)))

@@ -9,7 +9,7 @@ use Rattle.worksheet.specs.Meaning.{sheet_of}
 use Rattle.worksheet.proofs.Limits.{SmallPart, small_parts, parts_degree}
 use Rattle.worksheet.proofs.Refusals.{entry_taken}
 use Rattle.worksheet.proofs.Runs.{call_good}
-use Rattle.worksheet.proofs.PartsHeld.{each_held, parts_length}
+use Rattle.worksheet.proofs.PartsHeld.{all_held, parts_length}
 use Rattle.worksheet.proofs.parts.Worksheet.enter.Goals as goal
 
 pub place_monic-requires : goal.place_monic-requires
@@ -23,8 +23,7 @@ place_monic-requires g c =
       base = c.requires.base;
       some = polynomial.0.some_code;
       short = polynomial.1;
-      sized = c.requires.sized;
-      counts = each_held (SmallPart m 127) (λ (x : Part). x.times + 1 < 2 ^ 32) (λ x h. omega (arith, h.times)) (vec_items w.parts) (small_parts m (sheet_of w) c.requires.good);
+      counts = all_held (SmallPart m 127) (λ (x : Part). x.times + 1 < 2 ^ 32) (λ x h. omega (arith, h.times)) (vec_items w.parts) (small_parts m (sheet_of w) c.requires.good);
       room = λ h. omega (arith, c.requires.room, parts_degree m (sheet_of w).parts c.requires.good.parts, parts_length w.parts, taken.1);
     }
 
@@ -43,7 +42,6 @@ returns g c =
         base = c.requires.base;
         laws = c.requires.laws;
         good = call_good F c.requires.laws (enter f (Ok (length f - 1))) (sheet_of w) _ c.requires.good entered;
-        sized = c.place_monic.ensures.sized;
         room = omega (arith, c.place_monic.ensures.capacity, c.requires.room);
       };
       same = refl;

@@ -1,48 +1,56 @@
-use Rattle.std.proofs.Common.{ℕ, ◌-◌, ◌<◌, List, ◌++◌, length, drop, vec_items, sym, refl, ap, ◌∙◌, ap₂, arith}
-use Rattle.std.proofs.lemmas.List.{length-take-le}
+use Rattle.std.proofs.Common.{◌≡◌, ℕ, ◌++◌, List, map, drop, Some, None, Ok, Err, Option, vec_items, sym, refl, ap, ◌∙◌, arith, Bor, ltb, length, get_or}
+use Rattle.std.specs.Option.{option_map, ok_or, is_some, IfSome}
+use Rattle.std.proofs.lemmas.Result.{err_from_is_err_and}
+use Rattle.worksheet.specs.declared.fault.SheetFault.{SheetFault}
+use Rattle.worksheet.specs.declared.fault.SheetFault.TheVariants.{NoPart}
 use Rattle.worksheet.specs.declared.parts.Part.{Part}
-use Rattle.worksheet.specs.Meaning.{part_of, sheet_of, Sized}
-use Rattle.worksheet.proofs.PartsHeld.{row_length, at_part, no_part, each_at}
+use Rattle.worksheet.specs.Sheet.{part_at}
+use Rattle.worksheet.specs.Meaning.{part_of, sheet_of}
+use Rattle.worksheet.proofs.Tallies.{got}
 use Rattle.worksheet.proofs.Refusals.{read_none, read_short, read_fits, gives_at, tells_at}
 use Rattle.worksheet.proofs.parts.Worksheet.read.Goals as goal
 
-pub returns-then-number-len : goal.returns-then-number-len
-returns-then-number-len g c =
-    let w = c.args.self.now in
-    (read_none (sheet_of w) c.args.number c.args.out.now (no_part (vec_items w.parts) c.args.number (omega (arith, w.parts.ok.0))), refl)
+-- what `ok_or` answered, read back
+ok_none : {A : Type 0} (r : Option A) (e : SheetFault) → ok_or r NoPart ≡ Err e → (r ≡ None) × (e ≡ NoPart)
+ok_none None e h = (refl, cc)
+ok_none (Some x) e h = absurd cc
 
-pub returns-then-out-part : goal.returns-then-out-part
-returns-then-out-part g c =
+ok_some : {A : Type 0} (r : Option A) (x : A) → ok_or r NoPart ≡ Ok x → r ≡ Some x
+ok_some None x h = absurd cc
+ok_some (Some y) x h = cc
+
+-- the parts xs are those of the worksheet, ys
+gets : (xs ys : List Part) (i : ℕ) (r o : Option (Bor Part)) → (is_some r ≡ ltb i (length xs)) → IfSome r (λ x. x.now ≡ get_or xs i x.now) → xs ≡ ys → r ≡ o → part_at (map part_of ys) i ≡ option_map (λ x. part_of x.now) o
+gets xs ys i r o h k e d = sym (ap (λ (zs : List Part). part_at (map part_of zs) i) e) ∙ got xs i r h k ∙ ap (option_map (λ x. part_of x.now)) d
+
+pub returns-in_err-part : goal.returns-in_err-part
+returns-in_err-part g c =
     let w = c.args.self.now in
     let i = c.args.number in
-    let p : Part = c.index.result.now in
-    let within : i < length (vec_items w.parts) = omega (arith, w.parts.ok.0) in
-    let fit = each_at Sized (vec_items w.parts) i p within c.index.ensures c.requires.sized in
-    (read_short (sheet_of w) i c.args.out.now (part_of p) (at_part (vec_items w.parts) i p within c.index.ensures) (omega (arith, row_length p fit)), refl)
+    let h = c.get.ensures.lookup in
+    let none = ok_none c.get.result c.in_err-part.field-0.0 (sym c.ok_or.ensures.value ∙ c.in_err-part.was) in
+    let here = gets c.deref.result.now (vec_items w.parts) i c.get.result None h.0 h.1 c.deref.ensures.value none.0 in
+    let p = err_from_is_err_and c.from_residual.result c.from_residual.ensures.1 in
+    rw (p.1, p.2, none.1) (read_none (sheet_of w) i c.args.out.now here, refl)
 
-pub copy_from_slice-requires : goal.copy_from_slice-requires
-copy_from_slice-requires g c =
-    let v = c.args.self.now.parts in
-    let p : Part = c.index.result.now in
-    let fit = each_at Sized (vec_items v) c.args.number p (omega (arith, v.ok.0)) c.index.ensures c.requires.sized in
-    omega (arith, length-take-le p.length c.args.out.now (omega arith), row_length p fit, ap length c.codes.ensures)
-
-pub overflow_sub-result : goal.overflow_sub-result
-overflow_sub-result g c =
-    let v = c.args.self.now.parts in
-    (each_at Sized (vec_items v) c.args.number c.index.result.now (omega (arith, v.ok.0)) c.index.ensures c.requires.sized).some_code
+pub returns-then-out-codes : goal.returns-then-out-codes
+returns-then-out-codes g c =
+    let w = c.args.self.now in
+    let i = c.args.number in
+    let h = c.get.ensures.lookup in
+    let p = c.in_ok-part.part in
+    let here = gets c.deref.result.now (vec_items w.parts) i c.get.result (Some p) h.0 h.1 c.deref.ensures.value (ok_some c.get.result p (sym c.ok_or.ensures.value ∙ c.in_ok-part.was)) in
+    (read_short (sheet_of w) i c.args.out.now (part_of p.now) here (omega (arith, ap length c.codes-codes.ensures)), refl)
 
 pub returns : goal.returns
 returns g c =
     let w = c.args.self.now in
     let i = c.args.number in
     let out : List ℕ = c.args.out.now in
-    let p : Part = c.index.result.now in
-    let within : i < length (vec_items w.parts) = omega (arith, w.parts.ok.0) in
-    let fit = each_at Sized (vec_items w.parts) i p within c.index.ensures c.requires.sized in
-    let here = at_part (vec_items w.parts) i p within c.index.ensures in
-    let long = row_length p fit in (
-      read_fits (sheet_of w) i out (part_of p) here (omega (arith, long)),
-      gives_at _ (part_of p) out _ _ here (ap (λ n. n - 1) (sym long)) (ap₂ (λ (xs : List ℕ) (n : ℕ). xs ++ drop n out) (c.copy_from_slice.ensures.after ∙ c.codes.ensures) (sym long)),
-      tells_at _ (part_of p) here,
+    let h = c.get.ensures.lookup in
+    let p = c.in_ok-part.part in
+    let here = gets c.deref.result.now (vec_items w.parts) i c.get.result (Some p) h.0 h.1 c.deref.ensures.value (ok_some c.get.result p (sym c.ok_or.ensures.value ∙ c.in_ok-part.was)) in (
+      read_fits (sheet_of w) i out (part_of p.now) here (omega (arith, ap length c.codes-codes.ensures)),
+      gives_at _ (part_of p.now) out _ _ here c.degree.ensures (ap (λ (xs : List ℕ). xs ++ drop (length c.codes-codes.result.now) out) c.copy_from_slice.ensures.after ∙ ap (λ (xs : List ℕ). xs ++ drop (length xs) out) c.codes-codes.ensures),
+      tells_at _ (part_of p.now) here,
     )

@@ -1,6 +1,7 @@
 use Rattle.std.proofs.Common.{◌≡◌, ℕ, ◌<◌, ◌≤◌, List, map, length, replicate, Some, Ok, vec_items, Option, sym, refl, ap, ◌∙◌, subst, inl, inr, arith}
 use Rattle.std.proofs.lemmas.Bool.{cases_lt}
 use Rattle.field.specs.Field.{FieldMeaning, FieldLaws, means}
+use Rattle.split.specs.Kinds.{numbered}
 use Rattle.split.specs.Splitting.{scratch_size, wiped}
 use Rattle.split.specs.Calls.{Taken, Split}
 use Rattle.worksheet.specs.declared.parts.Part.{Part}
@@ -27,8 +28,8 @@ returns-in_default-split g c =
     let i : ℕ = c.in-Some.number in
     let p : Part = c.index.result.now in
     let f : List ℕ = c.codes.result.now in
-    let here = at_part xs i p (omega (arith, ap length c.as_slice.ensures.value, c.in-Some.ensures.0)) c.index.ensures in
-    let next = moved xs c.as_slice.result.now i (part_of p) c.as_slice.ensures.value c.in-Some.ensures.1 here in
+    let here = at_part xs i p (omega (arith, ap length c.deref.ensures.value, c.in-Some.ensures.0)) c.index.ensures in
+    let next = moved xs c.deref.result.now i (part_of p) c.deref.ensures.value c.in-Some.ensures.1 here in
     let refused = c.in_default-split.ensures.works in
     let taken : Taken m f = subst (Taken m) (sym c.codes.ensures) (part_taken m (map part_of xs) c.requires.good.parts c.requires.good.fits i (part_of p) here) in
     let short : length scratch < scratch_size f = elim (cases_lt (length scratch) (scratch_size f)) [ inl h ↦ h | inr h ↦ absurd (refused.0 taken h) ] in
@@ -46,14 +47,14 @@ replace-requires g c =
     let xs : List Part = vec_items w.parts in
     let i : ℕ = c.in-Some.number in
     let p : Part = c.index.result.now in
-    let here = at_part xs i p (omega (arith, ap length c.as_slice.ensures.value, c.in-Some.ensures.0)) c.index.ensures in
+    let here = at_part xs i p (omega (arith, ap length c.deref.ensures.value, c.in-Some.ensures.0)) c.index.ensures in
     record {
       made = c.requires;
       chosen = record {
         part = part_of p;
         here = here;
-        next = moved xs c.as_slice.result.now i (part_of p) c.as_slice.ensures.value c.in-Some.ensures.1 here;
-        split = subst (λ (f : List ℕ). Split F f (replicate 128 0) (replicate 128 0) c.in-Some-split.told c.split.new.first c.split.new.second) c.codes.ensures c.in-Some-split.ensures.works.2;
+        next = moved xs c.deref.result.now i (part_of p) c.deref.ensures.value c.in-Some.ensures.1 here;
+        split = subst (λ (f : List ℕ). Split F f (replicate 128 0) (replicate 128 0) (numbered c.in-Some-split.told) c.split.new.first c.split.new.second) c.codes.ensures c.in-Some-split.ensures.works.2;
       };
     }
 
@@ -66,12 +67,12 @@ returns g c =
     let after : List ℕ = c.split.new.scratch in
     let i : ℕ = c.in-Some.number in
     let p : Part = c.index.result.now in
-    let here = at_part xs i p (omega (arith, ap length c.as_slice.ensures.value, c.in-Some.ensures.0)) c.index.ensures in
-    let next = moved xs c.as_slice.result.now i (part_of p) c.as_slice.ensures.value c.in-Some.ensures.1 here in
+    let here = at_part xs i p (omega (arith, ap length c.deref.ensures.value, c.in-Some.ensures.0)) c.index.ensures in
+    let next = moved xs c.deref.result.now i (part_of p) c.deref.ensures.value c.in-Some.ensures.1 here in
     let works = c.in-Some-split.ensures.works in
     let last = c.replace.new.self in
     let same : last.field ≡ w.field = c.replace.ensures.same in
-    let stepped : Stepped F (sheet_of w) scratch (Ok c.in-Some-split.told) (sheet_of last) after = (
+    let stepped : Stepped F (sheet_of w) scratch (Ok (numbered c.in-Some-split.told)) (sheet_of last) after = (
       step_fits (sheet_of w) scratch (part_of p) next (subst (λ (f : List ℕ). scratch_size f ≤ length scratch) c.codes.ensures works.1),
       c.replace.ensures.replaced,
       works.3 ∙ ap (λ (f : List ℕ). wiped (scratch_size f) scratch) c.codes.ensures ∙ sym (ap (λ (o : Option PartMeaning). wiped (scratch_of o) scratch) next),
@@ -80,8 +81,7 @@ returns g c =
       made = record {
         base = subst (λ (x : g.row.F.Denot). g.F.Ring.made x) (sym same) c.requires.base;
         laws = subst (λ (x : g.row.F.Denot). FieldLaws (means (g.F.Ring.meaning x) (g.F.Field.extras x))) (sym same) c.requires.laws;
-        good = subst (λ (x : g.row.F.Denot). GoodSheet (g.F.Ring.meaning x) (sheet_of last)) (sym same) (call_good F c.requires.laws (step scratch (Ok c.in-Some-split.told) after) (sheet_of w) (sheet_of last) c.requires.good stepped);
-        sized = c.replace.ensures.sized;
+        good = subst (λ (x : g.row.F.Denot). GoodSheet (g.F.Ring.meaning x) (sheet_of last)) (sym same) (call_good F c.requires.laws (step scratch (Ok (numbered c.in-Some-split.told)) after) (sheet_of w) (sheet_of last) c.requires.good stepped);
         room = omega (arith, c.replace.ensures.capacity, c.requires.room);
       };
       same = same;
