@@ -42,10 +42,6 @@ One {A} P = (x : A) × P x × ((y : A) → P y → y ≡ x)
 one_is : {A : Type 0} (x : A) → One (λ y. y ≡ x)
 one_is x = (x, refl, λ y e. e)
 
--- what is unwrapped is the same
-same_some : {A : Type 0} (a b : A) → ◌≡◌ {A = Option A} (Some a) (Some b) → a ≡ b
-same_some {A} a b e = ap (λ (o : Option A). elim o [ Some x ↦ x | None ↦ a ]) e
-
 long_zeros : (n : ℕ) → n ≤ length {A = ℕ} (replicate n 0)
 long_zeros n = omega (arith, length-replicate {A = ℕ} n 0)
 
@@ -66,7 +62,7 @@ module _ (F : FieldMeaning) (L : FieldLaws F) where
     where
       only : (q : Answer) → Works F s (polynomial at f rest) q → q ≡ Err (Record at x)
       only q (Ok d, t, v, more) = absurd (some_none (sym e ∙ v.0))
-      only q (Err y, t, v, more) = more ∙ ap (λ (z : SheetFault). Err (Record at z)) (same_some y x (sym v.0 ∙ e))
+      only q (Err y, t, v, more) = let same : y ≡ x = cc (v.0, e) in more ∙ ap (λ (z : SheetFault). Err (Record at z)) same
 
   -- the steps, in a scratch that is long enough
   steps_done : (s : SheetMeaning) (scratch : List ℕ) → SettlesOnce F L s scratch → One (λ (r : Answer). (n : ℕ) × (t : SheetMeaning) × Settles F s scratch n t × (r ≡ Ok (outcome F.ring t n)))

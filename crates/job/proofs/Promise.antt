@@ -1,6 +1,6 @@
 -- A listing is the only splitting of the product of its job's polynomials: what a job does is a run of a worksheet, for which the law holds.
 -- Main statement: listings-split.
-use Rattle.std.proofs.Common.{◌≡◌, ℕ, zero, suc, Bool, true, false, leb, List, [], ◌∷◌, ◌++◌, length, replicate, Some, None, Ok, Err, Option, Result, sym, refl, ap, ◌∙◌, subst, append-nil, arith}
+use Rattle.std.proofs.Common.{◌≡◌, ℕ, zero, suc, Bool, true, false, leb, List, [], ◌∷◌, ◌++◌, length, replicate, Some, None, Ok, Err, Option, sym, refl, ap, ◌∙◌, subst, append-nil, arith}
 use Rattle.field.specs.declared.fault.FieldFault.{FieldFault}
 use Rattle.field.specs.Checks.{unless}
 use Rattle.field.specs.Field.{FieldMeaning, FieldLaws}
@@ -14,30 +14,16 @@ use Rattle.field.proofs.SymbolLaws.{symbol_laws}
 use Rattle.split.specs.Splitting.{scratch_size}
 use Rattle.extension.specs.Extension.{Extends}
 use Rattle.extension.specs.Judging.{extensions_are_fields}
-use Rattle.worksheet.specs.declared.fault.SheetFault.{SheetFault}
-use Rattle.worksheet.specs.declared.fault.SheetFault.TheVariants.{Field, NoOpenPart, ShortScratch}
+use Rattle.worksheet.specs.declared.fault.SheetFault.TheVariants.{NoOpenPart, ShortScratch}
 use Rattle.worksheet.specs.Sheet.{PartMeaning, SheetMeaning, empty, standing, next_open, open_count}
-use Rattle.worksheet.specs.Faults.{sheet_number, scratch_refusal}
+use Rattle.worksheet.specs.Faults.{scratch_refusal}
 use Rattle.worksheet.specs.Law.{Event, enter, step, Run, entries, taken, steps, most_steps, IsSplitting, Reordered, Holds}
 use Rattle.worksheet.proofs.Law.{law}
-use Rattle.job.specs.declared.fault.JobFault.{JobFault}
-use Rattle.job.specs.declared.fault.JobFault.TheVariants.{Record}
 use Rattle.job.specs.Reading.{Polynomials, polynomial, end, ended, Levels, extension, over, stopped, Reading, prime, symbol, refused, reading}
 use Rattle.job.specs.Outcome.{Outcome, outcome}
 use Rattle.job.specs.Job.{most_scratch, Settles, Works, AfterLevel, Climbs, Starts}
 use Rattle.job.specs.Promise.{polynomials_in, polynomials_over, polynomials_of, field_over, field_of, Filed, ListingsSplit}
 use Rattle.job.proofs.Settling.{no_open}
-
--- an outcome is no refusal
-abbrev IsOk : Result Outcome JobFault → Type 0
-IsOk (Ok o) = Unit {0}
-IsOk (Err e) = ⊥
-
-ok_err : (o : Outcome) (e : JobFault) → ◌≡◌ {A = Result Outcome JobFault} (Ok o) (Err e) → ⊥
-ok_err o e h = subst IsOk h tt
-
-same_ok : (o p : Outcome) → ◌≡◌ {A = Result Outcome JobFault} (Ok o) (Ok p) → o ≡ p
-same_ok o p h = ap (λ (r : Result Outcome JobFault). elim r [ Ok x ↦ x | Err e ↦ o ]) h
 
 -- a step that is refused with 22 finds no open part
 none_left : (n : ℕ) (o : Option PartMeaning) → scratch_refusal n o ≡ Some NoOpenPart → o ≡ None
@@ -46,7 +32,7 @@ none_left n (Some p) e = absurd (go (leb (scratch_size p.codes) n) e)
   where
     go : (b : Bool) → unless b ShortScratch ≡ Some NoOpenPart → ⊥
     go true h = some_none (sym h)
-    go false h = let z : ◌≡◌ {A = ℕ} 23 22 = ap (λ (o : Option SheetFault). elim o [ Some x ↦ sheet_number x | None ↦ 0 ]) h in omega arith
+    go false h = cc
 
 module _ (F : FieldMeaning) where
   -- a run from s to t with the entries fs and n accepted steps, where nothing is taken, and no part is open in the end
@@ -93,9 +79,9 @@ module _ (F : FieldMeaning) where
     },
     e,
   )
-  work_ran (polynomial at f rest) s o (Err x, u, w, more) = absurd (ok_err o (Record at x) more)
-  work_ran end s o (n, t, w, e) = (n, t, settles_ran n s (replicate most_scratch 0) t w, same_ok o _ e)
-  work_ran (ended e) s o w = absurd (ok_err o e w)
+  work_ran (polynomial at f rest) s o (Err x, u, w, more) = cc
+  work_ran end s o (n, t, w, e) = (n, t, settles_ran n s (replicate most_scratch 0) t w, cc)
+  work_ran (ended e) s o w = cc
 
   -- what such a run shows
   ran_filed : FieldLaws F → (fs : List (List ℕ)) (n : ℕ) (t : SheetMeaning) → Ran (empty F.ring) fs n t → Filed F fs (outcome F.ring t n)
@@ -122,7 +108,7 @@ module _ (F : FieldMeaning) where
 -- a level that is refused has no outcome after it
 level_made : (at : ℕ) (e : Option FieldFault) (P : Type 0) (o : Outcome) → AfterLevel at e P (Ok o) → (e ≡ None) × P
 level_made at None P o w = (refl, w)
-level_made at (Some x) P o w = absurd (ok_err o (Record at (Field x)) w)
+level_made at (Some x) P o w = cc
 
 climb_filed : (ls : Levels) (F : FieldMeaning) → FieldLaws F → (o : Outcome) → Climbs F ls (Ok o) → Filed (field_over F ls) (polynomials_over ls) o
 unfolding field_over polynomials_over
@@ -130,12 +116,12 @@ climb_filed (extension at k m rest) F L o (e, x, w) =
     let (n, c) = level_made at e _ o w in
     climb_filed rest (extension_field F k m) (extensions_are_fields F L k m (subst (Extends F k m) n x)) o c
 climb_filed (over rest) F L o w = work_filed F L rest o w
-climb_filed (stopped e) F L o w = absurd (ok_err o e w)
+climb_filed (stopped e) F L o w = cc
 
 start_filed : (x : Reading) (o : Outcome) → Starts x (Ok o) → Filed (field_of x) (polynomials_of x) o
 start_filed (prime at p rest) o w = let (n, c) = level_made at (prime_refusal p) _ o w in climb_filed rest (prime_field p) (prime_made p n) o c
 start_filed (symbol rest) o w = climb_filed rest symbol_field symbol_laws o w
-start_filed (refused e) o w = absurd (ok_err o e w)
+start_filed (refused e) o w = cc
 
 pub listings_split : ListingsSplit
 listings_split bytes o w = start_filed (reading bytes) o w

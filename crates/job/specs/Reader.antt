@@ -1,22 +1,27 @@
 -- How far the reader of a job has come.
-use Rattle.std.specs.Prelude.{◌≡◌, ℕ, ◌+◌, ◌≤◌, List, length, Ok, Err, Result}
+use Rattle.std.specs.Prelude.{◌≡◌, ℕ, ◌+◌, true, false, List, Ok, Err, ◌==◌, Result}
 use Rattle.job.specs.declared.fault.JobFault.{JobFault}
 use Rattle.job.specs.Reading.{Polynomials, Levels, byte, word, given, judged, record_end, polynomials_from, levels_from, most_job_codes}
+use Rattle.job.specs.declared.reader.Base.{Base}
+use Rattle.job.specs.declared.reader.Base.TheVariants.{Prime, Symbols}
 use Rattle.job.specs.declared.reader.Reader.{Reader}
 
 -- all bytes, those before and after its place
 abbrev pub bytes_of : Reader → List ℕ
 bytes_of r = r.bytes.now
 
--- its place is not past the end
-abbrev pub Within : Reader → Type 0
-Within r = r.at ≤ length (bytes_of r)
-
 -- s is r after n more bytes
 pub record Moved (r : Reader) (n : ℕ) (s : Reader) : Type 0 where
   pub same : bytes_of s ≡ bytes_of r
   pub place : s.at ≡ r.at + n
-  pub within : Within s
+
+-- the first level, whose kind is at place i, and how many bytes it has
+abbrev pub base_at : List ℕ → ℕ → Result Base JobFault
+base_at bytes i = judged Err bytes i 1 2 (elim (byte bytes i == 1) [ true ↦ given Err bytes (i + 2) (Ok (Prime (byte bytes (i + 1)))) | false ↦ Ok Symbols ])
+
+abbrev pub base_bytes : Base → ℕ
+base_bytes (Prime p) = 2
+base_bytes Symbols = 1
 
 -- k and m of the level at place i
 abbrev pub extension_at : List ℕ → ℕ → Result (ℕ × ℕ) JobFault

@@ -1,6 +1,5 @@
 // Why a job is refused.
 ghost use Rattle.std.specs.Prelude.{◌≡◌};
-ghost use Rattle.job.specs.declared.fault.JobFault.TheVariants.{Record as OfRecord};
 ghost use Rattle.job.specs.Faults.{job_number, job_layer, job_place, job_below};
 
 use worksheet::SheetFault;
@@ -40,10 +39,10 @@ impl JobFault {
         ensures { result ≡ job_place self }
     {
         match self {
-            JobFault::EndsEarly(at) => at,
-            JobFault::NotAllowed(at) => at,
-            JobFault::LeftOver(at) => at,
-            JobFault::Record(at, _) => at,
+            JobFault::EndsEarly(at)
+            | JobFault::NotAllowed(at)
+            | JobFault::LeftOver(at)
+            | JobFault::Record(at, _) => at,
         }
     }
 
@@ -55,20 +54,5 @@ impl JobFault {
             JobFault::Record(_, e) => Some(e),
             _ => None,
         }
-    }
-}
-
-// The refusal of a record, with the place of its first byte.
-#[derive(Clone, Copy)]
-pub(crate) struct RefusedRecord {
-    pub(crate) at: usize,
-    pub(crate) fault: SheetFault,
-}
-
-impl From<RefusedRecord> for JobFault {
-    ghost from_gives = { λ e r. r ≡ OfRecord e.at e.fault };
-
-    fn from(e: RefusedRecord) -> JobFault {
-        JobFault::Record(e.at, e.fault)
     }
 }

@@ -2,8 +2,6 @@
 ghost use Rattle.job.specs.TextExamples.{TextExamples};
 
 // Small jobs, and the text of what comes of them.
-pub fn job_examples() -> u8
+pub fn job_examples()
     ensures { TextExamples }
-{
-    0
-}
+{}

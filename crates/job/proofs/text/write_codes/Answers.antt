@@ -1,7 +1,6 @@
-use Rattle.std.proofs.Common.{get_or, refl, ap, arith}
-use Rattle.std.proofs.lemmas.List.{take_all, get_or_default}
+use Rattle.std.proofs.Common.{get_or, refl, arith}
+use Rattle.std.proofs.lemmas.List.{get_or_default}
 use Rattle.std.proofs.Output.{has_written_of_eq, has_written_append}
-use Rattle.job.specs.Listing.{spaced}
 use Rattle.job.proofs.Texts.{put_none, spaced_more, spaced_none}
 use Rattle.job.proofs.text.write_codes.Goals as goal
 
@@ -16,6 +15,3 @@ loop-code-preserved g c plain =
     let next = c.in_ok-write.ensures.writes so_far.plain refl in
     has_written_of_eq g.W.Write.write_str_gives _ _ _ _ (spaced_more xs i (get_or xs i 0) (omega arith) (get_or_default xs i 0 (get_or xs i 0) (omega arith)))
     (has_written_append g.W.Write.write_str_gives _ _ _ _ _ so_far next)
-
-pub returns : goal.returns
-returns g c plain ok = has_written_of_eq g.W.Write.write_str_gives _ _ _ _ (ap spaced (take_all c.loop-code.code-index c.args.codes.now (omega arith))) (c.loop-code.invariant plain)

@@ -1,10 +1,5 @@
-use Rattle.std.proofs.Common.{List, map, get_or, refl, ap, arith}
-use Rattle.std.proofs.lemmas.List.{take_all, get_or_default}
+use Rattle.std.proofs.Common.{refl, arith}
 use Rattle.std.proofs.Output.{has_written_of_eq, has_written_append}
-use Rattle.worksheet.specs.declared.parts.Part.{Part}
-use Rattle.worksheet.specs.Meaning.{part_of}
-use Rattle.worksheet.proofs.PartsHeld.{blank}
-use Rattle.job.specs.Listing.{part_lines}
 use Rattle.job.proofs.Texts.{put_none, lines_more, lines_none}
 use Rattle.job.proofs.text.write_parts.Goals as goal
 
@@ -15,12 +10,8 @@ pub loop-part-preserved : goal.loop-part-preserved
 loop-part-preserved g c plain =
     let xs = c.args.parts.now in
     let i = c.loop-part.part-index in
-    let x = get_or xs i blank in
+    let x = c.part-item.result in
     let so_far = c.loop-part.invariant plain in
     let next = c.in_ok-write_part.ensures so_far.plain refl in
-    has_written_of_eq g.W.Write.write_str_gives _ _ _ _ (lines_more xs i x (omega arith) (get_or_default xs i blank x (omega arith)))
+    has_written_of_eq g.W.Write.write_str_gives _ _ _ _ (lines_more xs i x (omega arith) c.part-item.is)
     (has_written_append g.W.Write.write_str_gives _ _ _ _ _ so_far next)
-
-pub returns : goal.returns
-returns g c plain ok =
-    has_written_of_eq g.W.Write.write_str_gives _ _ _ _ (ap (λ (ps : List Part). part_lines (map part_of ps)) (take_all c.loop-part.part-index c.args.parts.now (omega arith))) (c.loop-part.invariant plain)

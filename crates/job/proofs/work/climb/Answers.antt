@@ -1,4 +1,4 @@
-use Rattle.std.proofs.Common.{◌≡◌, ℕ, suc, ◌-◌, List, Err, Result, sym, subst, ap₂, arith}
+use Rattle.std.proofs.Common.{◌≡◌, ℕ, suc, ◌-◌, List, Err, Result, subst, ap₂, arith}
 use Rattle.field.specs.Field.{FieldMeaning, means}
 use Rattle.job.specs.declared.fault.JobFault.{JobFault}
 use Rattle.job.specs.Reading.{levels_from}
@@ -15,9 +15,9 @@ returns-in_err-first g c =
     let i : ℕ = c.args.reader.at in
     let more : ℕ = c.args.more in
     let one_more : suc (more - 1) ≡ more = omega (arith, c.if-more-eq0.false) in
-    answer_break (Climbs F (levels_from bytes i more)) c.from_residual.result c.from_residual.ensures.1
-    (λ e q. subst (λ (x : JobFault). Climbs F (levels_from bytes i more) (Err x)) (sym q)
-    (subst (λ (x : ℕ). Climbs F (levels_from bytes i x) (Err c.in_err-first.field-0.0)) one_more (c.in_err-first.ensures.leads (more - 1))))
+    let fault : JobFault = c.in_err-first.field-0.0 in
+    answer_break (Climbs F (levels_from bytes i more)) c.from_residual.result fault c.from_residual.ensures.1
+    (subst (λ (x : ℕ). Climbs F (levels_from bytes i x) (Err fault)) one_more (c.in_err-first.ensures.leads (more - 1)))
 
 pub returns-in_err-second : goal.returns-in_err-second
 returns-in_err-second g c =
@@ -27,10 +27,10 @@ returns-in_err-second g c =
     let more : ℕ = c.args.more in
     let two : 2 ≡ more = omega (arith, c.if-more-eq0.false, c.if-more-eq1.false) in
     let first = c.in_ok-first.ensures in
-    let e₀ : JobFault = c.in_err-second.field-0.0 in
-    answer_break (Climbs F (levels_from bytes i more)) c.from_residual-in_err-second.result c.from_residual-in_err-second.ensures.1
-    (λ e q. subst (λ (x : JobFault). Climbs F (levels_from bytes i more) (Err x)) (sym q)
-    (subst (λ (x : ℕ). Climbs F (levels_from bytes i x) (Err e₀)) two (first.leads 1 (Err e₀) (over_equal (levels_left c.extend.new.reader 1) (Err e₀) (ap₂ means first.makes.1 first.makes.2) (c.in_err-second.ensures.leads 0)))))
+    let fault : JobFault = c.in_err-second.field-0.0 in
+    answer_break (Climbs F (levels_from bytes i more)) c.from_residual-in_err-second.result fault c.from_residual-in_err-second.ensures.1
+    (subst (λ (x : ℕ). Climbs F (levels_from bytes i x) (Err fault)) two
+    (first.leads 1 (Err fault) (over_equal (levels_left c.extend.new.reader 1) (Err fault) (ap₂ means first.makes.1 first.makes.2) (c.in_err-second.ensures.leads 0))))
 
 pub returns : goal.returns
 returns g c =

@@ -1,5 +1,4 @@
-use Rattle.std.proofs.Common.{◌≡◌, ℕ, suc, ◌-◌, Err, sym, ◌∙◌, subst, arith}
-use Rattle.std.proofs.lemmas.Result.{IfOk-from_err}
+use Rattle.std.proofs.Common.{◌≡◌, ℕ, suc, ◌-◌, Err, ◌∙◌, subst, arith}
 use Rattle.field.specs.Field.{FieldMeaning, means}
 use Rattle.worksheet.specs.Sheet.{SheetMeaning}
 use Rattle.worksheet.specs.Meaning.{sheet_of}
@@ -18,16 +17,13 @@ returns-in_err-enter_next g c =
     let left : ℕ → Polynomials = polynomials_from (bytes_of c.loop.reader) c.loop.reader.at in
     let n : ℕ = c.args.count - c.loop.counter in
     let one_more : suc (n - 1) ≡ n = omega arith in
-    let stop = c.from_residual.ensures in
     let fault : JobFault = c.in_err-enter_next.field-0.0 in
     let refused : Works (meaning c.loop.sheet.field) s (left (suc (n - 1))) (Err fault) = c.in_err-enter_next.ensures.leads (n - 1) in
     record {
-      leads = leads_break _ _ c.from_residual.result stop.1
-          (λ e q. inv.3 (Err e) (subst (λ (x : JobFault). Works (meaning c.args.sheet.now.field) s (left n) (Err x)) (sym q)
-          (subst (λ (x : g.row.F.Denot). Works (meaning x) s (left n) (Err fault)) inv.1 (subst (λ (x : ℕ). Works (meaning c.loop.sheet.field) s (left x) (Err fault)) one_more refused))));
+      leads = leads_break _ _ c.from_residual.result fault c.from_residual.ensures.1
+          (inv.2 (Err fault) (subst (λ (x : g.row.F.Denot). Works (meaning x) s (left n) (Err fault)) inv.1 (subst (λ (x : ℕ). Works (meaning c.loop.sheet.field) s (left x) (Err fault)) one_more refused)));
       made = c.enter_next.ensures.made;
       same = c.enter_next.ensures.same ∙ inv.1;
-      within = IfOk-from_err c.from_residual.result _ stop.0;
     }
 
 pub returns : goal.returns
@@ -36,8 +32,7 @@ returns g c =
     let F : FieldMeaning = means (g.F.Ring.meaning w.field) (g.F.Field.extras w.field) in
     let t : SheetMeaning = sheet_of c.loop.sheet in
     record {
-      leads = λ r h. c.loop.invariant.3 r (subst (λ (l : Polynomials). Works F t l r) (none_left _ _ _ (omega arith)) h);
+      leads = λ r h. c.loop.invariant.2 r (subst (λ (l : Polynomials). Works F t l r) (none_left _ _ _ (omega arith)) h);
       made = c.loop.invariant.0;
       same = c.loop.invariant.1;
-      within = c.loop.invariant.2;
     }

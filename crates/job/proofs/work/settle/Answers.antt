@@ -1,11 +1,13 @@
 use Rattle.std.proofs.Common.{◌≡◌, ℕ, ◌<◌, List, replicate, Some, Ok, Err, Result, sym, refl, ap, ◌∙◌, subst, arith}
 use Rattle.std.proofs.lemmas.List.{length-replicate}
 use Rattle.field.specs.Field.{FieldMeaning, means}
+use Rattle.split.specs.declared.kind.Kind.{Kind}
+use Rattle.split.specs.Kinds.{numbered}
 use Rattle.worksheet.specs.declared.fault.SheetFault.{SheetFault}
 use Rattle.worksheet.specs.declared.fault.SheetFault.TheVariants.{NoOpenPart}
 use Rattle.worksheet.specs.Sheet.{SheetMeaning}
 use Rattle.worksheet.specs.Faults.{step_refusal}
-use Rattle.worksheet.specs.Calls.{Stepped}
+use Rattle.worksheet.specs.Calls.{Stepped, told}
 use Rattle.worksheet.specs.Meaning.{sheet_of}
 use Rattle.worksheet.proofs.Measures.{weight}
 use Rattle.job.specs.Job.{most_scratch, Settles}
@@ -32,7 +34,7 @@ accepted g c =
     let w = c.loop-scratch.sheet in
     let F : FieldMeaning = means (g.F.Ring.meaning w.field) (g.F.Field.extras w.field) in
     let ok = is_ok c.step.result (sym c.loop-scratch-test.ensures.value) in
-    (ok.0, subst (λ (r : Result (ℕ × ℕ × ℕ) SheetFault). Stepped F (sheet_of w) c.loop-scratch.scratch r (sheet_of c.step.new.self) c.step.new.scratch) ok.1 c.step.ensures.stepped)
+    (numbered ok.0, subst (λ (r : Result (Kind × ℕ × ℕ) SheetFault). Stepped F (sheet_of w) c.loop-scratch.scratch (told r) (sheet_of c.step.new.self) c.step.new.scratch) ok.1 c.step.ensures.stepped)
 
 less : (g : given.Over) (c : goal.In-loop-scratch g) → weight (sheet_of c.step.new.self).parts < weight (sheet_of c.loop-scratch.sheet).parts
 less g c =
@@ -68,7 +70,7 @@ returns g c =
     let t : SheetMeaning = sheet_of c.step.new.self in
     let err = is_err c.step.result (sym c.loop-scratch-test.ensures.value) in
     let refused : Stepped F (sheet_of w) scratch (Err err.0) t c.step.new.scratch =
-    subst (λ (r : Result (ℕ × ℕ × ℕ) SheetFault). Stepped F (sheet_of w) scratch r t c.step.new.scratch) err.1 c.step.ensures.stepped in
+    subst (λ (r : Result (Kind × ℕ × ℕ) SheetFault). Stepped F (sheet_of w) scratch (told r) t c.step.new.scratch) err.1 c.step.ensures.stepped in
     let none : step_refusal (sheet_of w) scratch ≡ Some NoOpenPart = refused.0 ∙ ap Some (none_open F inv.0.laws (sheet_of w) inv.0.good scratch err.0 inv.2 refused.0) in
     record {
       settles = subst (λ (x : SheetMeaning). Settles F₀ (sheet_of c.args.sheet.now) (replicate most_scratch 0) c.loop-scratch.steps x) (sym refused.1)

@@ -8,7 +8,7 @@ use Rattle.job.proofs.work.settle.Given as goal
 
 abbrev pub invariant-loop-scratch : goal.invariant-loop-scratch
 invariant-loop-scratch g l =
-    SheetMade (g.F.Ring.made l.sheet.field) (means (g.F.Ring.meaning l.sheet.field) (g.F.Field.extras l.sheet.field)) l.sheet
+    SheetMade (record { meaning = g.F.Ring.meaning; made = g.F.Ring.made; extras = g.F.Field.extras }) l.sheet
     × (l.sheet.field ≡ l.initial.sheet.field)
     × (length l.scratch ≡ most_scratch)
     × (l.steps + weight (sheet_of l.sheet).parts ≤ weight (sheet_of l.initial.sheet).parts)

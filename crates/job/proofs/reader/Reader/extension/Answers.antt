@@ -1,40 +1,24 @@
-use Rattle.std.proofs.Common.{ℕ, ◌+◌, List, length, Ok, Err, Result, refl, ap, ◌∙◌, ap₂, arith}
-use Rattle.std.proofs.lemmas.Result.{err_from_is_err_and, IfOk-from_err}
+use Rattle.std.proofs.Common.{ℕ, ◌+◌, List, Ok, Err, Result, ◌∙◌, ap₂, arith}
 use Rattle.job.specs.declared.fault.JobFault.{JobFault}
-use Rattle.job.specs.Reading.{byte, word}
-use Rattle.job.proofs.ReadingBytes.{judged_after, given_ok, moved_then, need_moved, byte_moved, word_moved}
+use Rattle.job.proofs.ReadingBytes.{passed, judged_after, moved_short, moved_there, taken_moved, byte_taken, word_taken}
 use Rattle.job.proofs.reader.Reader.extension.Goals as goal
 
-pub returns-in_err-judged : goal.returns-in_err-judged
-returns-in_err-judged c =
-    let p = err_from_is_err_and c.from_residual.result c.from_residual.ensures.1 in
-    record { value = rw (p.1, p.2) (judged_after Err _ _ _ 3 3 _ _ c.in_err-judged.ensures.value); moved = IfOk-from_err c.from_residual.result _ c.from_residual.ensures.0 }
+pub returns-in_err-judged-clause-value : goal.returns-in_err-judged-clause-value
+returns-in_err-judged-clause-value c = passed _ _ c.from_residual.ensures.1 ∙ judged_after Err _ _ _ 3 3 _ (Err _) c.in_err-judged.ensures.value
 
-pub returns-in_err-need : goal.returns-in_err-need
-returns-in_err-need c =
-    let p = err_from_is_err_and c.from_residual-in_err-need.result c.from_residual-in_err-need.ensures.1 in
-    record {
-      value = rw (p.1, p.2) (need_moved Err _ 3 _ tt _ c.in_ok-judged.ensures.moved (omega arith) c.in_err-need.ensures ∙ judged_after Err _ _ _ 3 3 _ _ c.in_ok-judged.ensures.value);
-      moved = IfOk-from_err c.from_residual-in_err-need.result _ c.from_residual-in_err-need.ensures.0;
-    }
+pub returns-in_err-bytes-clause-value : goal.returns-in_err-bytes-clause-value
+returns-in_err-bytes-clause-value c =
+    let kind = c.in_ok-judged.ensures in
+    let few = c.in_err-bytes.ensures.few in
+    passed _ _ c.from_residual-in_err-bytes.ensures.1 ∙ moved_short 3 _ _ kind.moved (omega arith) _ few.0 few.1 ∙ judged_after Err _ _ _ 3 3 _ (Ok _) kind.value
 
-pub byte-k-requires : goal.byte-k-requires
-byte-k-requires c = omega (arith, (given_ok _ _ _ _ c.in_ok-need.ensures).0)
-
-pub word-m-requires : goal.word-m-requires
-word-m-requires c = omega (arith, (given_ok _ _ _ _ c.in_ok-need.ensures).0, c.byte-k.ensures.moved.place, ap length c.byte-k.ensures.moved.same)
-
-pub returns : goal.returns
-returns c =
+pub returns-clause-value : goal.returns-clause-value
+returns-clause-value c =
     let bytes : List ℕ = c.args.self.now.bytes.now in
     let i : ℕ = c.args.self.now.at in
-    let first = c.in_ok-judged.ensures.moved in
-    let second = moved_then 2 first c.byte-k.ensures.moved refl in
+    let kind = c.in_ok-judged.ensures in
+    let taken = c.in_ok-bytes.ensures.taken ∙ taken_moved kind.moved 3 in
+    let k = byte_taken bytes _ (i + 1) 3 taken 0 (i + 1) (omega arith) (omega arith) in
+    let m = word_taken bytes c.in_ok-bytes.bytes.now (i + 1) 3 taken 1 (i + 2) (omega arith) (omega arith) in
     let answer : ℕ → ℕ → Result (ℕ × ℕ) JobFault = λ k m. Ok (k, m) in
-    record {
-      value =
-          ap₂ answer (c.byte-k.ensures.value ∙ byte_moved first) (c.word-m.ensures.value ∙ word_moved second)
-          ∙ need_moved Err (answer (byte bytes (i + 1)) (word bytes (i + 2))) 3 (i + 4) tt (Ok tt) first (omega arith) c.in_ok-need.ensures
-          ∙ judged_after Err _ bytes i 3 3 _ (Ok _) c.in_ok-judged.ensures.value;
-      moved = moved_then 4 second c.word-m.ensures.moved refl;
-    }
+    ap₂ answer k (omega (arith, c.from_le_bytes.ensures, m)) ∙ moved_there 3 (i + 4) _ kind.moved (omega arith) c.in_ok-bytes.ensures.enough ∙ judged_after Err _ bytes i 3 3 _ (Ok _) kind.value
