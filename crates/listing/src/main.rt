@@ -9,9 +9,6 @@ use worksheet::Room;
 // What is kept of the input: one byte more than the longest job has.
 const KEPT_BYTES: u64 = MOST_JOB_BYTES as u64 + 1;
 
-// How many bytes are read at once of what is not kept.
-const CHUNK: usize = 4096;
-
 const HELP: &str = "\
 listing: splits polynomials over a finite field; each listed factor is proved not to split again
 
@@ -31,21 +28,11 @@ and its listing is
 A refused job prints one line with the number and the byte, as: refused 42 byte 25
 ";
 
-// Reads some bytes that are not kept, and answers how many.
-fn skip(rt: &HostRuntime) -> io::Result<usize> {
-    let mut chunk = [0u8; CHUNK];
-    rt.stdin().read(&mut chunk)
-}
-
 // Reads standard input to its end, and answers its first bytes.
 fn input(rt: &HostRuntime) -> anyhow::Result<Vec<u8>> {
     let mut bytes = Vec::new(rt.alloc());
     rt.stdin().take(KEPT_BYTES).read_to_end(&mut bytes)?;
-    for _ in 0..u64::MAX {
-        if skip(rt)? == 0 {
-            break;
-        }
-    }
+    io::copy(&mut rt.stdin(), &mut io::sink())?;
     Ok(bytes)
 }
 
