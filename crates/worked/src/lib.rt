@@ -4,9 +4,7 @@
 ghost use Rattle.worked.specs.Examples.{Examples, SmallCases};
 
 // The worked examples hold of the definitions.
-pub fn worked_examples() -> u8
+pub fn worked_examples()
     ensures examples { Examples }
     ensures cases { SmallCases }
-{
-    0
-}
+{}
