@@ -3,14 +3,16 @@
 // their greatest common divisor, and makes one splitting step on it.
 #![tactic(auto)]
 
-ghost use Rattle.std.specs.Prelude.{◌≡◌, min, length, take};
+ghost use Rattle.std.specs.Prelude.{◌≡◌, min, length, take, IfOk};
+ghost use Rattle.field.specs.Residues.{residues};
 
 mod work;
 
-use anyhow::anyhow;
+use anyhow::Context;
 use field::{PrimeField, Ring, SymbolField};
 use poly::{MOST_CODES, derivative, divide, gcd, product, value};
 use split::split;
+use std::fmt;
 use work::{FIRST_ROOT, ROOTS, generator, root};
 
 // X + 1, and the cofactor of X^16 + X^12 + X^5 + 1 over order 2
@@ -21,54 +23,71 @@ const COFACTOR: [u16; 16] = [1, 1, 1, 1, 1, 0, 0, 0, 0, 0, 0, 0, 1, 1, 1, 1];
 // the codes of scratch of a step on a polynomial of degree 16
 const SCRATCH: usize = 512;
 
-// The first n codes of a buffer, or all of them.
-fn front(codes: &[u16], n: usize) -> &[u16]
-    ensures { result.now ≡ take (min n (length codes.now)) codes.now }
-{
-    &codes[..n.min(codes.len())]
+// A polynomial with the order of its ring.
+#[derive(Clone, Copy)]
+struct Polynomial<'a> {
+    order: u32,
+    codes: &'a [u16],
 }
 
-// Prints a polynomial with the order of its ring and its degree.
-fn show(rt: &impl Print, order: u32, codes: &[u16]) -> anyhow::Result<()> {
-    let degree = codes.len().saturating_sub(1);
-    print!(rt; "order {order} degree {degree} codes")?;
-    for c in codes {
-        print!(rt; " {c}")?;
+impl<'a> Polynomial<'a> {
+    // The polynomial whose codes are the first n of a buffer, or all of them.
+    fn over<R: Ring>(ring: &R, codes: &'a [u16], n: usize) -> Polynomial<'a>
+        requires { R.made ring.now }
+        ensures codes { result.codes.now ≡ take (min n (length codes.now)) codes.now }
+        ensures order { result.order ≡ (R.meaning ring.now).order }
+    {
+        Polynomial {
+            order: ring.order(),
+            codes: &codes[..n.min(codes.len())],
+        }
     }
-    println!(rt)?;
-    Ok(())
+}
+
+impl fmt::Display for Polynomial<'_> {
+    fn fmt<W: fmt::Write>(&self, f: &mut fmt::Formatter<W>) -> fmt::Result {
+        let order = self.order;
+        let degree = self.codes.len().saturating_sub(1);
+        write!(f, "order {order} degree {degree} codes")?;
+        for c in self.codes {
+            write!(f, " {c}")?;
+        }
+        Ok(())
+    }
 }
 
 fn reed_solomon(rt: &impl Print) -> anyhow::Result<()> {
     let field = SymbolField::new();
     let mut codes = [0u16; MOST_CODES];
-    let Ok(n) = generator(&field, &mut codes) else {
-        return Err(anyhow!("the generator polynomial is refused"));
-    };
-    let polynomial = front(&codes, n);
-    show(rt, field.order(), polynomial)?;
-    let mut zeros = 0u32;
-    for i in 0..ROOTS {
-        if let Ok(0) = value(&field, polynomial, root(&field, FIRST_ROOT + i)) {
-            zeros = zeros.saturating_add(1);
-        }
-    }
+    let n = generator(&field, &mut codes)
+        .ok()
+        .context("the generator polynomial is refused")?;
+    let polynomial = Polynomial::over(&field, &codes, n);
+    println!(rt; "{polynomial}")?;
+    let zeros = (FIRST_ROOT..FIRST_ROOT + ROOTS)
+        .filter(|i| value(&field, polynomial.codes, root(&field, *i)) == Ok(0))
+        .count();
     println!(rt; "zero at {zeros} of its {ROOTS} roots")?;
     Ok(())
 }
 
+// The field of order 2.
+fn binary_field() -> anyhow::Result<PrimeField>
+    ensures { IfOk result (λ field. ⟦<PrimeField as Ring>⟧.made field × (⟦<PrimeField as Ring>⟧.meaning field ≡ residues 2)) }
+{
+    PrimeField::new(2).ok().context("order 2 is refused")
+}
+
 fn frame_check(rt: &impl Print) -> anyhow::Result<()> {
-    let Ok(field) = PrimeField::new(2) else {
-        return Err(anyhow!("order 2 is refused"));
-    };
+    let field = binary_field()?;
     let mut codes = [0u16; MOST_CODES];
-    let Ok(n) = product(&field, &LINEAR, &COFACTOR, &mut codes) else {
-        return Err(anyhow!("the product is refused"));
-    };
-    let check = front(&codes, n);
-    show(rt, field.order(), check)?;
-    against_derivative(rt, field, check)?;
-    split_once(rt, field, check)
+    let n = product(&field, &LINEAR, &COFACTOR, &mut codes)
+        .ok()
+        .context("the product is refused")?;
+    let check = Polynomial::over(&field, &codes, n);
+    println!(rt; "{check}")?;
+    against_derivative(rt, field, check.codes)?;
+    split_once(rt, field, check.codes)
 }
 
 // Divides a polynomial by its derivative, and takes their greatest common divisor.
@@ -76,25 +95,26 @@ fn against_derivative(rt: &impl Print, field: PrimeField, check: &[u16]) -> anyh
     requires { ⟦<PrimeField as Ring>⟧.made field }
 {
     let mut slope = [0u16; MOST_CODES];
-    let Ok(n) = derivative(&field, check, &mut slope) else {
-        return Err(anyhow!("the derivative is refused"));
-    };
-    let slope = front(&slope, n);
+    let n = derivative(&field, check, &mut slope)
+        .ok()
+        .context("the derivative is refused")?;
+    let slope = Polynomial::over(&field, &slope, n).codes;
     let mut quotient = [0u16; MOST_CODES];
     let mut remainder = [0u16; MOST_CODES];
-    let Ok((k, l)) = divide(&field, check, slope, &mut quotient, &mut remainder) else {
-        return Err(anyhow!("the division is refused"));
-    };
-    print!(rt; "by its derivative: quotient ")?;
-    show(rt, field.order(), front(&quotient, k))?;
-    print!(rt; "by its derivative: remainder ")?;
-    show(rt, field.order(), front(&remainder, l))?;
+    let (k, l) = divide(&field, check, slope, &mut quotient, &mut remainder)
+        .ok()
+        .context("the division is refused")?;
+    let quotient = Polynomial::over(&field, &quotient, k);
+    println!(rt; "by its derivative: quotient {quotient}")?;
+    let remainder = Polynomial::over(&field, &remainder, l);
+    println!(rt; "by its derivative: remainder {remainder}")?;
     let mut common = [0u16; MOST_CODES];
-    let Ok(d) = gcd(&field, check, slope, &mut common) else {
-        return Err(anyhow!("the common divisor is refused"));
-    };
-    print!(rt; "with its derivative: common divisor ")?;
-    show(rt, field.order(), front(&common, d))
+    let d = gcd(&field, check, slope, &mut common)
+        .ok()
+        .context("the common divisor is refused")?;
+    let common = Polynomial::over(&field, &common, d);
+    println!(rt; "with its derivative: common divisor {common}")?;
+    Ok(())
 }
 
 // One splitting step, with the two pieces.
@@ -104,13 +124,16 @@ fn split_once(rt: &impl Print, field: PrimeField, check: &[u16]) -> anyhow::Resu
     let mut scratch = [0u16; SCRATCH];
     let mut first = [0u16; MOST_CODES];
     let mut second = [0u16; MOST_CODES];
-    let Some((kind, left, right)) = split(&field, check, &mut scratch, &mut first, &mut second)
-    else {
-        return Err(anyhow!("the step is not taken"));
-    };
-    println!(rt; "splits as ({kind},{left},{right})")?;
-    show(rt, field.order(), front(&first, left.saturating_add(1)))?;
-    show(rt, field.order(), front(&second, right.saturating_add(1)))
+    let (kind, left, right) = split(&field, check, &mut scratch, &mut first, &mut second).context(
+        "the step is not taken",
+    )?;
+    let number = kind.number();
+    println!(rt; "splits as ({number},{left},{right})")?;
+    let first = Polynomial::over(&field, &first, left.saturating_add(1));
+    println!(rt; "{first}")?;
+    let second = Polynomial::over(&field, &second, right.saturating_add(1));
+    println!(rt; "{second}")?;
+    Ok(())
 }
 
 fn run(rt: &impl Print) -> anyhow::Result<()> {

@@ -1,14 +1,11 @@
 // The generator polynomial of the CCSDS (255,223) Reed-Solomon code, over any ring: the code of α is 2.
 ghost use Rattle.std.specs.Prelude.{◌≡◌, ◌≤◌, take, IfOk};
-ghost use Rattle.field.specs.Ring.{power};
 ghost use Rattle.hishdugur.specs.Generator.{root_at, generator_polynomial};
 
-use field::Ring;
+use field::{ONE, Ring, power_code};
 use poly::{MOST_CODES, PolyFault, product};
 
 const ALPHA: u16 = 2;
-
-const ONE: u16 = 1;
 
 const STEP: u32 = 11;
 
@@ -16,24 +13,12 @@ pub const FIRST_ROOT: u32 = 112;
 
 pub const ROOTS: u32 = 32;
 
-// a to the power n.
-fn raise<R: Ring>(ring: &R, a: u16, n: u32) -> u16
-    requires { R.made ring.now }
-    ensures { result ≡ power (R.meaning ring.now) a n }
-{
-    let mut result = ONE;
-    for _ in 0..n {
-        result = ring.product(a, result);
-    }
-    result
-}
-
 // (α^11)^i.
 pub fn root<R: Ring>(ring: &R, i: u32) -> u16
     requires { R.made ring.now }
     ensures { result ≡ root_at (R.meaning ring.now) i }
 {
-    raise(ring, raise(ring, ALPHA, STEP), i)
+    power_code(ring, power_code(ring, ALPHA, STEP), i)
 }
 
 // The product of X - (α^11)^i for i from 112 to 143, from index 0 on; its length.
@@ -44,8 +29,8 @@ pub fn generator<R: Ring>(ring: &R, out: &mut [u16; MOST_CODES]) -> Result<usize
 {
     out[0] = ONE;
     let mut n = 1;
-    for i in 0..ROOTS {
-        let factor = [ring.opposite(root(ring, FIRST_ROOT + i)), ONE];
+    for i in FIRST_ROOT..FIRST_ROOT + ROOTS {
+        let factor = [ring.opposite(root(ring, i)), ONE];
         let before = *out;
         n = product(ring, &factor, &before[..n], out)?;
     }
