@@ -1,8 +1,11 @@
 // The steps of a job, read apart from the library's own reading of jobs: the field is made level by level, the polynomials are
-// entered and the worksheet is stepped. Nothing is printed of a job that is not a good one.
+// entered and the worksheet is stepped. Nothing is printed of a job that is not a good one. The kinds of levels stand as the bytes
+// that they are, so that no name is shared with that reading.
+ghost use Rattle.std.specs.Prelude.{IfSome};
+
 use crate::steps::show_steps;
 use extension::Extension;
-use field::{Field, PrimeField, SymbolField};
+use field::{Field, PrimeField, Ring, SymbolField};
 
 // Prints the answers of the steps of a job.
 pub fn replay(rt: &(impl Print + AllocGlobal), bytes: &[u8]) -> anyhow::Result<()> {
@@ -25,35 +28,31 @@ fn climb<F: Field>(
 ) -> anyhow::Result<()>
     requires { F.made base }
 {
+    // by hand: each level has a type of its own, so no loop can hold it
     if levels == 1 {
         return show_steps(rt, base, bytes);
     }
-    let Some((k, m, rest)) = extension(bytes) else {
-        return Ok(());
-    };
-    let Ok(second) = Extension::new(base, k, m) else {
+    let Some((second, bytes)) = above(base, bytes) else {
         return Ok(());
     };
     if levels == 2 {
-        return show_steps(rt, second, rest);
+        return show_steps(rt, second, bytes);
     }
-    let Some((k, m, rest)) = extension(rest) else {
+    let Some((third, bytes)) = above(second, bytes) else {
         return Ok(());
     };
-    let Ok(third) = Extension::new(second, k, m) else {
-        return Ok(());
-    };
-    show_steps(rt, third, rest)
+    show_steps(rt, third, bytes)
 }
 
-// The numbers k and m of an extension, and the bytes behind it.
-fn extension(bytes: &[u8]) -> Option<(u32, u32, &[u8])> {
+// The extension of a field that the first bytes name, and the bytes behind them.
+fn above<F: Field>(base: F, bytes: &[u8]) -> Option<(Extension<F>, &[u8])>
+    requires { F.made base }
+    ensures { IfSome result (λ r. ⟦<Extension<F> as Ring>⟧.made r.0) }
+{
     let [3, k, low, high, rest @ ..] = bytes else {
         return None;
     };
-    Some((
-        u32::from(*k),
-        u32::from(u16::from_le_bytes([*low, *high])),
-        rest,
-    ))
+    let m = u16::from_le_bytes([*low, *high]);
+    let field = Extension::new(base, u32::from(*k), u32::from(m)).ok()?;
+    Some((field, rest))
 }

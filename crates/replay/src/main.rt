@@ -6,36 +6,25 @@ mod decode;
 mod hex;
 mod steps;
 
-use anyhow::anyhow;
 use decode::replay;
 use hex::bytes_of;
 use job::run;
 use std::io::{BufRead, BufReader};
 use worksheet::Room;
 
-// Prints the listing of a job, or its refusal. Whether it was not refused.
-fn show_listing(rt: &(impl Print + AllocGlobal), bytes: &[u8]) -> anyhow::Result<bool> {
-    match run(Room::new(rt.alloc())?, bytes) {
+// Works the job of one line: prints its listing and the answers of its steps, or its refusal.
+fn work(rt: &(impl Print + AllocGlobal), text: &str) -> anyhow::Result<()> {
+    let bytes = bytes_of(rt.alloc(), text)?;
+    match run(Room::new(rt.alloc())?, bytes.as_slice()) {
         Ok(listing) => {
             rt.print(listing)?;
-            Ok(true)
+            replay(rt, bytes.as_slice())
         }
         Err(fault) => {
             rt.print(fault)?;
-            Ok(false)
+            Ok(())
         }
     }
-}
-
-// Works the job of one line.
-fn work(rt: &(impl Print + AllocGlobal), text: &str) -> anyhow::Result<()> {
-    let Some(bytes) = bytes_of(rt.alloc(), text)? else {
-        return Err(anyhow!("a line is not hexadecimal"));
-    };
-    if show_listing(rt, bytes.as_slice())? {
-        replay(rt, bytes.as_slice())?;
-    }
-    Ok(())
 }
 
 fn work_all(rt: &HostRuntime) -> anyhow::Result<()> {
