@@ -2,26 +2,20 @@
 // and the number of its parts. With the argument `time` it splits each several times and prints the shortest time too.
 #![tactic(auto)]
 
-ghost use Rattle.field.specs.Field.{means};
+ghost use Rattle.std.specs.Prelude.{IfOk};
 ghost use Rattle.worksheet.specs.Meaning.{SheetMade};
 
 mod set;
 
-use anyhow::anyhow;
+use anyhow::Context;
 use extension::Extension;
 use field::{Field, PrimeField, Ring, SymbolField};
 use poly::MOST_CODES;
 use set::{FRAME_CHECK, GENERATOR, draw, linear_product};
-use std::env;
-use std::env::Args;
 use std::rt::{Clock, Env};
 use std::time::{Duration, Instant};
-use worksheet::{Room, Worksheet};
-
-// the codes of scratch of a step on a polynomial of degree 127, and the most steps that one of degree 127 can ask for
-const SCRATCH: usize = 32258;
-
-const MOST_STEPS: u32 = 253;
+use std::{env, fmt};
+use worksheet::{MOST_SCRATCH, MOST_STEPS, Room, Worksheet};
 
 // how often each polynomial is split for a time
 const RUNS: u32 = 7;
@@ -34,26 +28,56 @@ const TOWER_HEIGHT: u32 = 2;
 
 const TOWER_NUMBER: u32 = 258;
 
-// What came of a splitting, and the time of its steps.
-#[derive(Clone, Copy)]
+// The time of the steps of a splitting, and what came of it: ordered by the time.
+#[derive(Clone, Copy, PartialEq, Eq, PartialOrd, Ord)]
 struct Outcome {
+    time: Duration,
     steps: u32,
     parts: usize,
-    time: Duration,
+}
+
+// What is printed of one polynomial, with a time where one is wanted.
+#[derive(Clone, Copy)]
+struct Line<'a> {
+    name: &'a str,
+    order: u32,
+    degree: usize,
+    outcome: Outcome,
+    timed: bool,
+}
+
+impl fmt::Display for Line<'_> {
+    fn fmt<W: fmt::Write>(&self, f: &mut fmt::Formatter<W>) -> fmt::Result {
+        let Line {
+            name,
+            order,
+            degree,
+            outcome,
+            timed,
+        } = *self;
+        let Outcome { time, steps, parts } = outcome;
+        write!(
+            f,
+            "{name}: order {order} degree {degree} steps {steps} parts {parts}"
+        )?;
+        if timed {
+            let nanoseconds = time.as_nanos();
+            write!(f, " nanoseconds {nanoseconds}")?;
+        }
+        Ok(())
+    }
 }
 
 // Steps until no part is open, and answers how many steps there were.
 fn settle<F: Field>(sheet: &mut Worksheet<F>, scratch: &mut [u16]) -> u32
-    requires { SheetMade (F.made sheet.old.field) (means (F.meaning sheet.old.field) (F.extras sheet.old.field)) sheet.old }
+    requires { SheetMade F.Field sheet.old }
 {
-    let mut steps = 0u32;
-    for _ in 0..MOST_STEPS {
+    for steps in 0..MOST_STEPS {
         if sheet.step(scratch).is_err() {
-            break;
+            return steps;
         }
-        steps = steps.saturating_add(1);
     }
-    steps
+    MOST_STEPS
 }
 
 // Enters a polynomial and steps until no part is open. Only the steps are timed.
@@ -65,17 +89,15 @@ fn split_once<F: Field>(
     requires { F.made field }
 {
     let mut sheet = Worksheet::new(Room::new(rt.alloc())?, field);
-    let Ok(_) = sheet.enter(f) else {
-        return Err(anyhow!("a polynomial is refused"));
-    };
-    let mut scratch = [0u16; SCRATCH];
+    let _ = sheet.enter(f).ok().context("a polynomial is refused")?;
+    let mut scratch = [0u16; MOST_SCRATCH];
     let start = Instant::now(rt)?;
     let steps = settle(&mut sheet, &mut scratch);
     let time = start.elapsed(rt)?;
     Ok(Outcome {
+        time,
         steps,
         parts: sheet.count(),
-        time,
     })
 }
 
@@ -90,110 +112,93 @@ fn best_of<F: Field>(
 {
     let mut best = split_once(rt, field, f)?;
     for _ in 1..runs {
-        let next = split_once(rt, field, f)?;
-        if next.time < best.time {
-            best = next;
-        }
+        best = best.min(split_once(rt, field, f)?);
     }
     Ok(best)
 }
 
-// Splits a polynomial and prints its line, with a time where one is wanted.
-fn measure<F: Field>(
-    rt: &(impl Print + Clock + AllocGlobal),
-    timed: bool,
-    name: &str,
-    field: F,
-    f: &[u16],
-) -> anyhow::Result<()>
-    requires { F.made field }
+// The prime field of order p.
+fn prime_field(p: u32) -> anyhow::Result<PrimeField>
+    ensures { IfOk result (λ field. ⟦<PrimeField as Ring>⟧.made field) }
 {
-    let runs = if timed { RUNS } else { 1 };
-    let outcome = best_of(rt, runs, field, f)?;
-    let order = field.order();
-    let degree = f.len().saturating_sub(1);
-    let steps = outcome.steps;
-    let parts = outcome.parts;
-    print!(rt; "{name}: order {order} degree {degree} steps {steps} parts {parts}")?;
-    if timed {
-        let nanoseconds = outcome.time.as_nanos();
-        print!(rt; " nanoseconds {nanoseconds}")?;
+    PrimeField::new(p).ok().context("a prime field is refused")
+}
+
+// The tower of order 65,536 over the symbol field.
+fn tower() -> anyhow::Result<Extension<SymbolField>>
+    ensures { IfOk result (λ field. ⟦<Extension<SymbolField> as Ring>⟧.made field) }
+{
+    Extension::new(SymbolField::new(), TOWER_HEIGHT, TOWER_NUMBER)
+        .ok()
+        .context("the tower is refused")
+}
+
+// What prints, tells the time and gives memory, and whether times are wanted.
+#[derive(Clone, Copy)]
+struct Bench<'a, T> {
+    rt: &'a T,
+    timed: bool,
+}
+
+impl<T: Print + Clock + AllocGlobal> Bench<'_, T> {
+    // Splits a polynomial and prints its line.
+    fn measure<F: Field>(&self, name: &str, field: F, f: &[u16]) -> anyhow::Result<()>
+        requires { F.made field }
+    {
+        let runs = if self.timed { RUNS } else { 1 };
+        let line = Line {
+            name,
+            order: field.order(),
+            degree: f.len().saturating_sub(1),
+            outcome: best_of(self.rt, runs, field, f)?,
+            timed: self.timed,
+        };
+        println!(self.rt; "{line}")?;
+        Ok(())
     }
-    println!(rt)?;
-    Ok(())
-}
 
-// The polynomial of fixed codes of the greatest degree.
-fn measure_drawn<F: Field>(
-    rt: &(impl Print + Clock + AllocGlobal),
-    timed: bool,
-    name: &str,
-    field: F,
-) -> anyhow::Result<()>
-    requires { F.made field }
-{
-    let mut codes = [0u16; MOST_CODES];
-    draw(&field, &mut codes);
-    measure(rt, timed, name, field, &codes)
-}
+    // The polynomial of fixed codes of the greatest degree.
+    fn measure_drawn<F: Field>(&self, field: F) -> anyhow::Result<()>
+        requires { F.made field }
+    {
+        let mut codes = [0u16; MOST_CODES];
+        draw(&field, &mut codes);
+        self.measure("drawn", field, &codes)
+    }
 
-// The product of linear factors of the greatest degree.
-fn measure_linear<F: Field>(
-    rt: &(impl Print + Clock + AllocGlobal),
-    timed: bool,
-    name: &str,
-    field: F,
-) -> anyhow::Result<()>
-    requires { F.made field }
-{
-    let Ok(codes) = linear_product(&field) else {
-        return Err(anyhow!("a product is refused"));
-    };
-    measure(rt, timed, name, field, &codes)
-}
+    // The product of linear factors of the greatest degree.
+    fn measure_linear<F: Field>(&self, field: F) -> anyhow::Result<()>
+        requires { F.made field }
+    {
+        let codes = linear_product(&field).ok().context("a product is refused")?;
+        self.measure("linear factors", field, &codes)
+    }
 
-// The polynomials over the prime fields.
-fn over_primes(rt: &(impl Print + Clock + AllocGlobal), timed: bool) -> anyhow::Result<()> {
-    let (Ok(two), Ok(three), Ok(last)) = (
-        PrimeField::new(2),
-        PrimeField::new(3),
-        PrimeField::new(251),
-    ) else {
-        return Err(anyhow!("a prime field is refused"));
-    };
-    measure(rt, timed, "frame check", two, &FRAME_CHECK)?;
-    measure_drawn(rt, timed, "drawn", two)?;
-    measure_drawn(rt, timed, "drawn", three)?;
-    measure_drawn(rt, timed, "drawn", last)?;
-    measure_linear(rt, timed, "linear factors", last)
-}
-
-// The polynomials over the symbol field, and the one over the tower on it.
-fn over_symbols(rt: &(impl Print + Clock + AllocGlobal), timed: bool) -> anyhow::Result<()> {
-    let symbols = SymbolField::new();
-    measure(rt, timed, "code generator", symbols, &GENERATOR)?;
-    measure_drawn(rt, timed, "drawn", symbols)?;
-    measure_linear(rt, timed, "linear factors", symbols)?;
-    let Ok(tower) = Extension::new(symbols, TOWER_HEIGHT, TOWER_NUMBER) else {
-        return Err(anyhow!("the tower is refused"));
-    };
-    let mut codes = [0u16; TOWER_CODES];
-    draw(&tower, &mut codes);
-    measure(rt, timed, "drawn", tower, &codes)
-}
-
-// Whether times are wanted: an argument is `time`.
-fn wants_time(args: Args) -> bool {
-    for arg in args {
-        if arg.as_str() == "time" {
-            return true;
+    // The polynomials over the prime fields.
+    fn over_primes(&self) -> anyhow::Result<()> {
+        self.measure("frame check", prime_field(2)?, &FRAME_CHECK)?;
+        for p in [2, 3, 251] {
+            self.measure_drawn(prime_field(p)?)?;
         }
+        self.measure_linear(prime_field(251)?)
     }
-    false
+
+    // The polynomials over the symbol field, and the one over the tower on it.
+    fn over_symbols(&self) -> anyhow::Result<()> {
+        let symbols = SymbolField::new();
+        self.measure("code generator", symbols, &GENERATOR)?;
+        self.measure_drawn(symbols)?;
+        self.measure_linear(symbols)?;
+        let tower = tower()?;
+        let mut codes = [0u16; TOWER_CODES];
+        draw(&tower, &mut codes);
+        self.measure("drawn", tower, &codes)
+    }
 }
 
 fn main(rt: HostRuntime) -> anyhow::Result<()> {
-    let timed = wants_time(env::args(&rt)?);
-    over_primes(&rt, timed)?;
-    over_symbols(&rt, timed)
+    let timed = env::args(&rt)?.any(|arg| arg.as_str() == "time");
+    let bench = Bench { rt: &rt, timed };
+    bench.over_primes()?;
+    bench.over_symbols()
 }

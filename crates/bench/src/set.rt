@@ -1,7 +1,9 @@
 // The polynomials that are split.
-ghost use Rattle.std.specs.Prelude.{◌≡◌, ◌+◌, ◌*◌, ◌%◌, ◌^◌};
+ghost use Rattle.std.specs.Prelude.{◌≡◌, ℕ, ◌+◌, ◌-◌, ◌<◌, length, slice_index, take, IfOk};
+ghost use Rattle.field.specs.Polynomial.{product_of};
+ghost use Rattle.bench.specs.Drawn.{next_number, drawn_code, linear_factors};
 
-use field::Ring;
+use field::{ONE, Ring};
 use poly::{MOST_CODES, PolyFault, product};
 
 // the frame check X^16 + X^12 + X^5 + 1
@@ -13,8 +15,6 @@ pub const GENERATOR: [u16; 33] = [
     165, 97, 235, 13, 30, 16, 86, 127, 91, 1,
 ];
 
-const ONE: u16 = 1;
-
 // the numbers of the recurrence
 const MULTIPLIER: u64 = 1103515245;
 
@@ -24,7 +24,7 @@ const MODULUS: u64 = 4294967296;
 
 // The number after x in the recurrence.
 fn next(x: u32) -> u32
-    ensures { result ≡ (x * 1103515245 + 12345) % 2 ^ 32 }
+    ensures { result ≡ next_number x }
 {
     ((u64::from(x) * MULTIPLIER + INCREMENT) % MODULUS) as u32
 }
@@ -33,6 +33,8 @@ fn next(x: u32) -> u32
 // after 1, each divided by 2^16, modulo the order; at last the code one.
 pub fn draw<R: Ring>(ring: &R, codes: &mut [u16])
     requires { R.made ring.now }
+    ensures drawn { (k : ℕ) → k + 1 < length codes.new → slice_index codes.new k ≡ drawn_code (R.meaning ring.now) k }
+    ensures monic { 0 < length codes.new → slice_index codes.new (length codes.new - 1) ≡ 1 }
 {
     let mut x = 1;
     let order = ring.order();
@@ -40,21 +42,23 @@ pub fn draw<R: Ring>(ring: &R, codes: &mut [u16])
         x = next(x);
         *c = ((x >> 16) % order) as u16;
     }
-    if let Some(last) = codes.last_mut() {
+    if let [.., last] = codes {
         *last = ONE;
     }
 }
 
-// The product of X - a for the codes a from 1 to 127.
+// The product of X - a for the codes a from 1 to 127, from index 0 on.
 pub fn linear_product<R: Ring>(ring: &R) -> Result<[u16; MOST_CODES], PolyFault>
     requires { R.made ring.now }
+    ensures { IfOk result (λ codes. (n : ℕ) × (take n codes ≡ product_of (R.meaning ring.now) (linear_factors (R.meaning ring.now) 127))) }
 {
     let mut codes = [0u16; MOST_CODES];
     codes[0] = ONE;
-    for n in 1..MOST_CODES {
-        let factor = [ring.opposite(n as u16), ONE];
+    let mut n = 1;
+    for a in 1..MOST_CODES as u16 {
+        let factor = [ring.opposite(a), ONE];
         let before = codes;
-        let _ = product(ring, &factor, &before[..n], &mut codes)?;
+        n = product(ring, &factor, &before[..n], &mut codes)?;
     }
     Ok(codes)
 }

@@ -2,5 +2,5 @@ use Rattle.field.specs.Field.{means}
 use Rattle.worksheet.specs.Meaning.{SheetMade}
 use Rattle.bench.proofs.settle.Given as goal
 
-abbrev pub invariant-loop : goal.invariant-loop
-invariant-loop g l = SheetMade (g.F.Ring.made l.sheet.field) (means (g.F.Ring.meaning l.sheet.field) (g.F.Field.extras l.sheet.field)) l.sheet
+abbrev pub invariant-loop-steps : goal.invariant-loop-steps
+invariant-loop-steps g l = SheetMade (record { meaning = g.F.Ring.meaning; made = g.F.Ring.made; extras = g.F.Field.extras }) l.sheet
