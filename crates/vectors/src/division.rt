@@ -1,6 +1,7 @@
 // Division and common divisors over orders 2, 3, 251 and 256, and their refusals at the borders.
+use crate::expect::{Refusal, holds, refused};
 use field::{Field, PrimeField, Ring, SymbolField};
-use poly::{PolyFault, divide, gcd};
+use poly::{divide, gcd};
 use std::process::Abort;
 use std::test::Fail;
 
@@ -279,13 +280,6 @@ const SYMBOLS: [Case; 7] = [
     },
 ];
 
-// A buffer that was all 9 holds the expected codes at its front, and 9 behind them.
-fn holds(rt: &impl Abort, buffer: &[u16], expected: &[u16]) {
-    for (i, c) in buffer.iter().enumerate() {
-        assert_eq!(rt; *c, expected.get(i).copied().unwrap_or(9));
-    }
-}
-
 fn divisions<F: Field>(rt: &impl Abort, field: &F, cases: &[Case]) -> Result<(), Fail>
     requires { F.made field.now }
 {
@@ -315,60 +309,67 @@ fn results(rt: HostRuntime) -> Result<(), Fail> {
     divisions(&rt, &SymbolField::new(), &SYMBOLS)
 }
 
-// A refusal has this number and index and layer 2.
-fn refused<T: Drop>(
-    rt: &impl Abort,
-    res: Result<T, PolyFault>,
-    number: u8,
-    index: usize,
-) -> Result<(), Fail> {
-    match res {
-        Ok(_) => Err(Fail::new("not refused")),
-        Err(e) => {
-            assert_eq!(rt; e.number(), number);
-            assert_eq!(rt; e.layer(), 2);
-            assert_eq!(rt; e.index(), index);
-            Ok(())
-        }
-    }
-}
-
 // What division and common divisor refuse, in their order; both buffers stay.
 #[test]
 fn refusals(rt: HostRuntime) -> Result<(), Fail> {
     let field = PrimeField::new(5)?;
     let mut a = [9u16; 3];
     let mut b = [9u16; 2];
-    refused(&rt, divide(&field, &[], &[0], &mut a, &mut b), 10, 0)?;
-    refused(&rt, divide(&field, &[1, 5], &[], &mut a, &mut b), 11, 1)?;
-    refused(&rt, divide(&field, &[1, 1], &[], &mut a, &mut b), 10, 0)?;
-    refused(&rt, divide(&field, &[1, 1], &[3, 0], &mut a, &mut b), 12, 1)?;
-    refused(&rt, divide(&field, &[1, 1], &[0], &mut a, &mut b), 13, 0)?;
-    refused(&rt, divide(&field, &[0], &[0], &mut a, &mut b), 13, 0)?;
+    refused(
+        &rt,
+        divide(&field, &[], &[0], &mut a, &mut b),
+        Refusal(10, 2, 0),
+    );
+    refused(
+        &rt,
+        divide(&field, &[1, 5], &[], &mut a, &mut b),
+        Refusal(11, 2, 1),
+    );
+    refused(
+        &rt,
+        divide(&field, &[1, 1], &[], &mut a, &mut b),
+        Refusal(10, 2, 0),
+    );
+    refused(
+        &rt,
+        divide(&field, &[1, 1], &[3, 0], &mut a, &mut b),
+        Refusal(12, 2, 1),
+    );
+    refused(
+        &rt,
+        divide(&field, &[1, 1], &[0], &mut a, &mut b),
+        Refusal(13, 2, 0),
+    );
+    refused(
+        &rt,
+        divide(&field, &[0], &[0], &mut a, &mut b),
+        Refusal(13, 2, 0),
+    );
     // X^4 + X^3 + 3 X + 2 by X + 2: the quotient has 4 codes
     refused(
         &rt,
         divide(&field, &[2, 3, 0, 1, 1], &[2, 1], &mut a, &mut b),
-        14,
-        0,
-    )?;
+        Refusal(14, 2, 0),
+    );
     // by X^3 + 2: the quotient X + 1 has 2 codes, and the remainder X has 2
     let mut one = [9u16; 1];
     refused(
         &rt,
         divide(&field, &[2, 3, 0, 1, 1], &[2, 0, 0, 1], &mut one, &mut b),
-        14,
-        0,
-    )?;
+        Refusal(14, 2, 0),
+    );
     refused(
         &rt,
         divide(&field, &[2, 3, 0, 1, 1], &[2, 0, 0, 1], &mut a, &mut one),
-        14,
-        0,
-    )?;
-    refused(&rt, gcd(&field, &[0, 0], &[1], &mut a), 12, 1)?;
-    refused(&rt, gcd(&field, &[1, 1], &[7], &mut a), 11, 0)?;
-    refused(&rt, gcd(&field, &[1, 3, 1], &[2, 1, 2], &mut b), 14, 0)?;
+        Refusal(14, 2, 0),
+    );
+    refused(&rt, gcd(&field, &[0, 0], &[1], &mut a), Refusal(12, 2, 1));
+    refused(&rt, gcd(&field, &[1, 1], &[7], &mut a), Refusal(11, 2, 0));
+    refused(
+        &rt,
+        gcd(&field, &[1, 3, 1], &[2, 1, 2], &mut b),
+        Refusal(14, 2, 0),
+    );
     holds(&rt, &a, &[]);
     holds(&rt, &b, &[]);
     holds(&rt, &one, &[]);

@@ -5,6 +5,8 @@
 #[cfg(test)]
 mod division;
 #[cfg(test)]
+mod expect;
+#[cfg(test)]
 mod polynomials;
 #[cfg(test)]
 mod quotients;

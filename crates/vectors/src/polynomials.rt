@@ -1,4 +1,5 @@
 // The calls on polynomials: results over small rings, and every refusal at its border.
+use crate::expect::{self, Refusal, all_are, holds};
 use field::{Residues, SymbolField};
 use poly::{PolyFault, check as check_polynomial, derivative, product, sum, value};
 use std::process::Abort;
@@ -317,12 +318,8 @@ fn stands(
     buffer: &[u16],
     expected: &[u16],
 ) -> Result<(), Fail> {
-    let n = res?;
-    assert_eq!(rt; n, expected.len());
-    for (i, c) in buffer.iter().enumerate() {
-        let wanted = expected.get(i).copied().unwrap_or(9);
-        assert_eq!(rt; *c, wanted);
-    }
+    assert_eq!(rt; res?, expected.len());
+    holds(rt, buffer, expected);
     Ok(())
 }
 
@@ -356,89 +353,59 @@ fn results(rt: HostRuntime) -> Result<(), Fail> {
     Ok(())
 }
 
-// A refusal has this number and index and layer 2, and left a buffer of 9s as it was.
+// An answer is this refusal, and left a buffer of 9s as it was.
 fn refused<T: Drop>(
     rt: &impl Abort,
-    res: Result<T, PolyFault>,
+    answer: Result<T, PolyFault>,
     buffer: &[u16],
-    number: u8,
-    index: usize,
-) -> Result<(), Fail> {
-    for c in buffer {
-        assert_eq!(rt; *c, 9);
-    }
-    match res {
-        Ok(_) => Err(Fail::new("not refused")),
-        Err(e) => {
-            assert_eq!(rt; e.number(), number);
-            assert_eq!(rt; e.layer(), 2);
-            assert_eq!(rt; e.index(), index);
-            Ok(())
-        }
-    }
+    expected: Refusal,
+) {
+    all_are(rt, buffer, 9);
+    expect::refused(rt, answer, expected);
 }
 
-// operands that are no polynomials over residues modulo 5, with number and index of the refusal
-const OPERANDS: [(&[u16], u8, usize); 9] = [
-    (&[], 10, 0),
-    (&[5], 11, 0),
-    (&[65535], 11, 0),
-    (&[1, 2, 5, 7], 11, 2),
-    (&[4, 4, 4, 5], 11, 3),
-    (&[0, 0], 12, 1),
-    (&[1, 2, 3, 0], 12, 3),
-    (&[1, 6, 0], 11, 1),
-    (&[7, 0], 11, 0),
+// operands that are no polynomials over residues modulo 5, with the refusal
+const OPERANDS: [(&[u16], Refusal); 9] = [
+    (&[], Refusal(10, 2, 0)),
+    (&[5], Refusal(11, 2, 0)),
+    (&[65535], Refusal(11, 2, 0)),
+    (&[1, 2, 5, 7], Refusal(11, 2, 2)),
+    (&[4, 4, 4, 5], Refusal(11, 2, 3)),
+    (&[0, 0], Refusal(12, 2, 1)),
+    (&[1, 2, 3, 0], Refusal(12, 2, 3)),
+    (&[1, 6, 0], Refusal(11, 2, 1)),
+    (&[7, 0], Refusal(11, 2, 0)),
 ];
 
 #[test]
 fn refused_operands(rt: HostRuntime) -> Result<(), Fail> {
     let ring = Residues::new(5)?;
     let one = [1u16];
-    for (f, number, index) in OPERANDS {
+    for (f, expected) in OPERANDS {
         let mut buffer = [9u16; 4];
-        refused(&rt, check_polynomial(&ring, f), &buffer, number, index)?;
-        refused(
-            &rt,
-            sum(&ring, f, &one, &mut buffer),
-            &buffer,
-            number,
-            index,
-        )?;
-        refused(
-            &rt,
-            sum(&ring, &one, f, &mut buffer),
-            &buffer,
-            number,
-            index,
-        )?;
-        refused(
-            &rt,
-            product(&ring, f, &one, &mut buffer),
-            &buffer,
-            number,
-            index,
-        )?;
-        refused(
-            &rt,
-            product(&ring, &one, f, &mut buffer),
-            &buffer,
-            number,
-            index,
-        )?;
-        refused(
-            &rt,
-            derivative(&ring, f, &mut buffer),
-            &buffer,
-            number,
-            index,
-        )?;
-        refused(&rt, value(&ring, f, 5), &buffer, number, index)?;
+        refused(&rt, check_polynomial(&ring, f), &buffer, expected);
+        refused(&rt, sum(&ring, f, &one, &mut buffer), &buffer, expected);
+        refused(&rt, sum(&ring, &one, f, &mut buffer), &buffer, expected);
+        refused(&rt, product(&ring, f, &one, &mut buffer), &buffer, expected);
+        refused(&rt, product(&ring, &one, f, &mut buffer), &buffer, expected);
+        refused(&rt, derivative(&ring, f, &mut buffer), &buffer, expected);
+        refused(&rt, value(&ring, f, 5), &buffer, expected);
     }
     // the first operand is judged first, and an operand before a short buffer
     let mut none = [0u16; 0];
-    refused(&rt, sum(&ring, &[0, 0], &[], &mut none), &none, 12, 1)?;
-    refused(&rt, sum(&ring, &[1], &[1, 0], &mut none), &none, 12, 1)
+    refused(
+        &rt,
+        sum(&ring, &[0, 0], &[], &mut none),
+        &none,
+        Refusal(12, 2, 1),
+    );
+    refused(
+        &rt,
+        sum(&ring, &[1], &[1, 0], &mut none),
+        &none,
+        Refusal(12, 2, 1),
+    );
+    Ok(())
 }
 
 // 1 to 128 codes are taken, 129 are not.
@@ -447,9 +414,19 @@ fn lengths(rt: HostRuntime) -> Result<(), Fail> {
     let ring = Residues::new(2)?;
     let codes = [1u16; 129];
     let mut buffer = [9u16; 128];
-    refused(&rt, derivative(&ring, &codes, &mut buffer), &buffer, 10, 0)?;
-    refused(&rt, value(&ring, &codes, 0), &buffer, 10, 0)?;
-    refused(&rt, sum(&ring, &codes, &[1], &mut buffer), &buffer, 10, 0)?;
+    refused(
+        &rt,
+        derivative(&ring, &codes, &mut buffer),
+        &buffer,
+        Refusal(10, 2, 0),
+    );
+    refused(&rt, value(&ring, &codes, 0), &buffer, Refusal(10, 2, 0));
+    refused(
+        &rt,
+        sum(&ring, &codes, &[1], &mut buffer),
+        &buffer,
+        Refusal(10, 2, 0),
+    );
     assert_eq!(rt; value(&ring, &codes[0..128], 1)?, 0);
     assert_eq!(rt; value(&ring, &codes[0..127], 1)?, 1);
     assert_eq!(rt; value(&ring, &codes[0..1], 0)?, 1);
@@ -470,31 +447,27 @@ fn long_products(rt: HostRuntime) -> Result<(), Fail> {
         &rt,
         product(&ring, &codes[0..65], &codes[0..65], &mut buffer),
         &buffer,
-        15,
-        0,
-    )?;
+        Refusal(15, 2, 0),
+    );
     refused(
         &rt,
         product(&ring, &codes, &codes[0..2], &mut buffer),
         &buffer,
-        15,
-        0,
-    )?;
+        Refusal(15, 2, 0),
+    );
     let mut none = [0u16; 0];
     refused(
         &rt,
         product(&ring, &codes, &codes[0..2], &mut none),
         &none,
-        15,
-        0,
-    )?;
+        Refusal(15, 2, 0),
+    );
     refused(
         &rt,
         product(&ring, &codes, &codes[0..1], &mut none),
         &none,
-        14,
-        0,
-    )?;
+        Refusal(14, 2, 0),
+    );
     assert_eq!(rt; product(&ring, &codes, &codes[0..1], &mut buffer)?, 128);
     assert_eq!(rt;
         product(&ring, &codes[0..64], &codes[0..65], &mut buffer)?,
@@ -509,7 +482,12 @@ fn buffers(rt: HostRuntime) -> Result<(), Fail> {
     let ring = Residues::new(4)?;
     let mut short = [9u16; 2];
     let mut exact = [9u16; 3];
-    refused(&rt, sum(&ring, &[1, 2, 3], &[1], &mut short), &short, 14, 0)?;
+    refused(
+        &rt,
+        sum(&ring, &[1, 2, 3], &[1], &mut short),
+        &short,
+        Refusal(14, 2, 0),
+    );
     stands(
         &rt,
         sum(&ring, &[1, 2, 3], &[1], &mut exact),
@@ -528,9 +506,8 @@ fn buffers(rt: HostRuntime) -> Result<(), Fail> {
         &rt,
         product(&ring, &[1, 2], &[1, 1], &mut short),
         &short,
-        14,
-        0,
-    )?;
+        Refusal(14, 2, 0),
+    );
     stands(
         &rt,
         product(&ring, &[1, 2], &[1, 1], &mut exact),
@@ -548,12 +525,17 @@ fn buffers(rt: HostRuntime) -> Result<(), Fail> {
         &rt,
         derivative(&ring, &[1, 2, 3], &mut short),
         &short,
-        14,
-        0,
-    )?;
+        Refusal(14, 2, 0),
+    );
     stands(&rt, derivative(&ring, &[1, 2, 2], &mut short), &short, &[2])?;
     let mut none = [0u16; 0];
-    refused(&rt, derivative(&ring, &[3], &mut none), &none, 14, 0)
+    refused(
+        &rt,
+        derivative(&ring, &[3], &mut none),
+        &none,
+        Refusal(14, 2, 0),
+    );
+    Ok(())
 }
 
 // A point that is no code is refused with 11 and index 0, after the operand.
@@ -562,7 +544,8 @@ fn points(rt: HostRuntime) -> Result<(), Fail> {
     let field = SymbolField::new();
     assert_eq!(rt; value(&field, &[7, 2], 128)?, 128);
     assert_eq!(rt; value(&field, &[7, 2], 255)?, 126);
-    refused(&rt, value(&field, &[7, 2], 256), &[], 11, 0)?;
-    refused(&rt, value(&field, &[7, 2], 65535), &[], 11, 0)?;
-    refused(&rt, value(&field, &[7, 0], 256), &[], 12, 1)
+    refused(&rt, value(&field, &[7, 2], 256), &[], Refusal(11, 2, 0));
+    refused(&rt, value(&field, &[7, 2], 65535), &[], Refusal(11, 2, 0));
+    refused(&rt, value(&field, &[7, 0], 256), &[], Refusal(12, 2, 1));
+    Ok(())
 }

@@ -1,6 +1,8 @@
 // Quotients of residues, of rings that are no fields too, and of quotients; the refusals of their making.
-use field::{FieldFault, Quotient, Residues, Ring};
+use crate::expect::{of_field, refusal_in};
+use field::{Quotient, Residues, Ring};
 use poly::{product, value};
+use std::process::Abort;
 use std::test::Fail;
 
 // in the quotient of the residues modulo n by t^k plus the polynomial of m
@@ -365,61 +367,58 @@ const OVER_SIXTEEN: [(u16, u16, u16, u16); 4] = [
     (2833, 1099, 3928, 513),
 ];
 
+fn answers<R: Ring>(rt: &impl Abort, ring: &R, cases: &[(u16, u16, u16, u16)])
+    requires { R.made ring.now }
+{
+    for (a, b, sum, product) in cases {
+        assert_eq!(rt; ring.sum(*a, *b), *sum);
+        assert_eq!(rt; ring.product(*a, *b), *product);
+    }
+}
+
 #[test]
 fn quotients_of_quotients(rt: HostRuntime) -> Result<(), Fail> {
     let nine = Quotient::new(Residues::new(3)?, 2, 4)?;
     let ring = Quotient::new(nine, 2, 11)?;
     assert_eq!(rt; ring.order(), 81);
-    for (a, b, sum, product) in OVER_NINE {
-        assert_eq!(rt; ring.sum(a, b), sum);
-        assert_eq!(rt; ring.product(a, b), product);
-    }
+    answers(&rt, &ring, &OVER_NINE);
     let sixteen = Quotient::new(Residues::new(4)?, 2, 7)?;
     let ring = Quotient::new(sixteen, 3, 1000)?;
     assert_eq!(rt; ring.order(), 4096);
-    for (a, b, sum, product) in OVER_SIXTEEN {
-        assert_eq!(rt; ring.sum(a, b), sum);
-        assert_eq!(rt; ring.product(a, b), product);
-    }
+    answers(&rt, &ring, &OVER_SIXTEEN);
     assert_eq!(rt; ring.sum(4096, 1), 0);
     assert_eq!(rt; ring.product(1, 4096), 0);
     assert_eq!(rt; ring.opposite(65535), 0);
     Ok(())
 }
 
-// modulus of the residues, k, m, the number of the refusal (0 for none)
-const MAKINGS: [(u32, u32, u32, u8); 18] = [
-    (2, 0, 0, 3),
-    (2, 1, 0, 3),
-    (2, 2, 0, 0),
-    (2, 2, 3, 0),
-    (2, 2, 4, 5),
-    (2, 16, 65535, 0),
-    (2, 16, 65536, 5),
-    (2, 17, 0, 3),
-    (2, 4294967295, 4294967295, 3),
-    (3, 2, 8, 0),
-    (3, 2, 9, 5),
-    (3, 10, 59048, 0),
-    (3, 10, 59049, 5),
-    (3, 11, 0, 4),
-    (3, 17, 0, 3),
-    (256, 2, 65535, 0),
-    (256, 2, 65536, 5),
-    (256, 16, 0, 4),
+// modulus of the residues, k, m, the number of the refusal
+const MAKINGS: [(u32, u32, u32, Option<u8>); 18] = [
+    (2, 0, 0, Some(3)),
+    (2, 1, 0, Some(3)),
+    (2, 2, 0, None),
+    (2, 2, 3, None),
+    (2, 2, 4, Some(5)),
+    (2, 16, 65535, None),
+    (2, 16, 65536, Some(5)),
+    (2, 17, 0, Some(3)),
+    (2, 4294967295, 4294967295, Some(3)),
+    (3, 2, 8, None),
+    (3, 2, 9, Some(5)),
+    (3, 10, 59048, None),
+    (3, 10, 59049, Some(5)),
+    (3, 11, 0, Some(4)),
+    (3, 17, 0, Some(3)),
+    (256, 2, 65535, None),
+    (256, 2, 65536, Some(5)),
+    (256, 16, 0, Some(4)),
 ];
 
 #[test]
 fn makings(rt: HostRuntime) -> Result<(), Fail> {
     for (n, k, m, number) in MAKINGS {
-        match Quotient::new(Residues::new(n)?, k, m) {
-            Ok(ring) => assert_eq!(rt; number, 0),
-            Err(e) => {
-                assert_eq!(rt; e.number(), number);
-                assert_eq!(rt; e.layer(), 1);
-                assert_eq!(rt; e.index(), 0);
-            }
-        }
+        let made = Quotient::new(Residues::new(n)?, k, m);
+        assert_eq!(rt; refusal_in(made), number.map(of_field));
     }
     Ok(())
 }

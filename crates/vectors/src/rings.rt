@@ -1,58 +1,40 @@
 // The makings of rings and fields, and what they answer.
-use field::{Field, FieldFault, PrimeField, Residues, Ring, SymbolField};
-use std::process::Abort;
+use crate::expect::{of_field, refusal_in};
+use field::{Field, PrimeField, Residues, Ring, SymbolField};
 use std::test::Fail;
 
-// n, then the numbers of the refusals of residues and of a prime field, 0 for none
-const MAKINGS: [(u32, u8, u8); 16] = [
-    (0, 1, 1),
-    (1, 1, 1),
-    (2, 0, 0),
-    (3, 0, 0),
-    (4, 0, 2),
-    (9, 0, 2),
-    (91, 0, 2),
-    (127, 0, 0),
-    (249, 0, 2),
-    (250, 0, 2),
-    (251, 0, 0),
-    (255, 0, 2),
-    (256, 0, 2),
-    (257, 1, 1),
-    (65538, 1, 1),
-    (4294967295, 1, 1),
+// n, then the numbers of the refusals of residues and of a prime field
+const MAKINGS: [(u32, Option<u8>, Option<u8>); 16] = [
+    (0, Some(1), Some(1)),
+    (1, Some(1), Some(1)),
+    (2, None, None),
+    (3, None, None),
+    (4, None, Some(2)),
+    (9, None, Some(2)),
+    (91, None, Some(2)),
+    (127, None, None),
+    (249, None, Some(2)),
+    (250, None, Some(2)),
+    (251, None, None),
+    (255, None, Some(2)),
+    (256, None, Some(2)),
+    (257, Some(1), Some(1)),
+    (65538, Some(1), Some(1)),
+    (4294967295, Some(1), Some(1)),
 ];
 
-// the number of a refusal, 0 for none; every refusal of this layer has layer 1 and index 0
-fn number<T: Drop>(rt: &impl Abort, r: Result<T, FieldFault>) -> Result<u8, Fail> {
-    match r {
-        Ok(_) => Ok(0),
-        Err(e) => {
-            assert_eq!(rt; e.layer(), 1);
-            assert_eq!(rt; e.index(), 0);
-            Ok(e.number())
-        }
-    }
-}
-
 #[test]
-fn makings(rt: HostRuntime) -> Result<(), Fail> {
+fn makings(rt: HostRuntime) {
     for (n, residues, prime) in MAKINGS {
-        assert_eq!(rt; number(&rt, Residues::new(n))?, residues);
-        assert_eq!(rt; number(&rt, PrimeField::new(n))?, prime);
+        assert_eq!(rt; refusal_in(Residues::new(n)), residues.map(of_field));
+        assert_eq!(rt; refusal_in(PrimeField::new(n)), prime.map(of_field));
     }
-    Ok(())
 }
 
 // The 54 primes are taken, and no other n from 2 to 256.
 #[test]
 fn primes_are_counted(rt: HostRuntime) {
-    let mut count = 0u32;
-    for n in 2..257u32 {
-        if PrimeField::new(n).is_ok() {
-            count = count.saturating_add(1);
-        }
-    }
+    let count = (2..257u32).filter(|n| PrimeField::new(*n).is_ok()).count();
     assert_eq!(rt; count, 54);
 }
 

@@ -1,4 +1,5 @@
 // One step on one polynomial, over prime fields and the symbol field: kinds, degrees and pieces, and the scratch afterwards.
+use crate::expect::{all_are, holds};
 use field::{Field, PrimeField, Ring, SymbolField};
 use poly::MOST_CODES;
 use split::split;
@@ -352,18 +353,11 @@ const FRAME_CHECK: [Case; 1] = [Case {
     second: &[1, 1, 1, 1, 1, 0, 0, 0, 0, 0, 0, 0, 1, 1, 1, 1],
 }];
 
-// A buffer that was all 9 holds the expected codes at its front, and 9 behind them.
-fn holds(rt: &impl Abort, buffer: &[u16], expected: &[u16]) {
-    for (i, c) in buffer.iter().enumerate() {
-        assert_eq!(rt; *c, expected.get(i).copied().unwrap_or(9));
-    }
-}
-
 // The first n codes of the scratch are 0, the others still 9.
 fn wiped(rt: &impl Abort, scratch: &[u16], n: usize) {
-    for (i, c) in scratch.iter().enumerate() {
-        assert_eq!(rt; *c, if i < n { 0 } else { 9 });
-    }
+    let (front, rest) = scratch.split_at(n.min(scratch.len()));
+    all_are(rt, front, 0);
+    all_are(rt, rest, 9);
 }
 
 fn steps<F: Field>(rt: &impl Abort, field: &F, cases: &[Case]) -> Result<(), Fail>
@@ -377,7 +371,7 @@ fn steps<F: Field>(rt: &impl Abort, field: &F, cases: &[Case]) -> Result<(), Fai
         else {
             return Err(Fail::new("not taken"));
         };
-        assert_eq!(rt; kind, case.kind);
+        assert_eq!(rt; kind.number(), case.kind);
         assert_eq!(rt; left, case.left);
         assert_eq!(rt; right, case.right);
         holds(rt, &first, case.first);

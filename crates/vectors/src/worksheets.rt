@@ -1,24 +1,24 @@
 // Lists of calls on a worksheet, over prime fields, the symbol field and towers: what each answers, and what stands after it.
-ghost use Rattle.field.specs.Field.{means};
 ghost use Rattle.worksheet.specs.Meaning.{SheetMade};
 
+use crate::expect::{Refusal, holds, of_field, refusal_in, refused};
 use extension::Extension;
 use field::{Field, PrimeField, SymbolField};
 use poly::MOST_CODES;
 use std::process::Abort;
 use std::test::Fail;
-use worksheet::{Room, SheetFault, Worksheet};
+use worksheet::{Room, Worksheet};
 
-// A call with what it answers, or with the number, the layer and the index of its refusal; and what stands between calls.
+// A call with what it answers, or with its refusal; and what stands between calls.
 enum Call {
     Enter(&'static [u16], usize),
-    NotEntered(&'static [u16], u8, u8, usize),
+    NotEntered(&'static [u16], Refusal),
     Step(u8, usize, usize),
-    NotStepped(u8),
+    NotStepped(Refusal),
     Take(usize, &'static [u16]),
     // a number and the length of a buffer
-    NotTaken(usize, usize, u8),
-    NotRead(usize, usize, u8),
+    NotTaken(usize, usize, Refusal),
+    NotRead(usize, usize, Refusal),
     // the unit, and how many parts are open
     Unit(u16, usize),
     // a number, the codes, the multiplicity, and whether the part is open
@@ -27,144 +27,54 @@ enum Call {
     Count(usize),
 }
 
-// A buffer holds these codes, and 9 behind them.
-fn holds(rt: &impl Abort, buffer: &[u16], expected: &[u16]) -> Result<(), Fail> {
-    for (i, c) in buffer.iter().enumerate() {
-        assert_eq!(rt; *c, expected.get(i).copied().unwrap_or(9));
-    }
-    Ok(())
-}
-
-fn refused(
-    rt: &impl Abort,
-    fault: SheetFault,
-    number: u8,
-    layer: u8,
-    index: usize,
-) -> Result<(), Fail> {
-    assert_eq!(rt; fault.number(), number);
-    assert_eq!(rt; fault.layer(), layer);
-    assert_eq!(rt; fault.index(), index);
-    Ok(())
-}
-
-fn enter<F: Field>(rt: &impl Abort, sheet: &mut Worksheet<F>, call: &Call) -> Result<(), Fail>
-    requires { SheetMade (F.made sheet.old.field) (means (F.meaning sheet.old.field) (F.extras sheet.old.field)) sheet.old }
-    ensures { SheetMade (F.made sheet.new.field) (means (F.meaning sheet.new.field) (F.extras sheet.new.field)) sheet.new }
-{
-    match call {
-        Call::Enter(f, degree) => match sheet.enter(f) {
-            Ok(d) => {
-                assert_eq!(rt; d, *degree);
-                Ok(())
-            },
-            Err(_) => Err(Fail::new("not entered")),
-        },
-        Call::NotEntered(f, number, layer, index) => match sheet.enter(f) {
-            Ok(_) => Err(Fail::new("entered")),
-            Err(e) => refused(rt, e, *number, *layer, *index),
-        },
-        _ => Ok(()),
-    }
-}
-
-fn step<F: Field>(
-    rt: &impl Abort,
-    sheet: &mut Worksheet<F>,
-    call: &Call,
-    scratch: &mut [u16],
-) -> Result<(), Fail>
-    requires { SheetMade (F.made sheet.old.field) (means (F.meaning sheet.old.field) (F.extras sheet.old.field)) sheet.old }
-    ensures { SheetMade (F.made sheet.new.field) (means (F.meaning sheet.new.field) (F.extras sheet.new.field)) sheet.new }
-{
-    match call {
-        Call::Step(kind, left, right) => match sheet.step(scratch) {
-            Ok((k, l, r)) => {
-                assert!(rt; k == *kind && l == *left && r == *right);
-                Ok(())
-            },
-            Err(_) => Err(Fail::new("not stepped")),
-        },
-        Call::NotStepped(number) => match sheet.step(scratch) {
-            Ok(_) => Err(Fail::new("stepped")),
-            Err(e) => refused(rt, e, *number, 3, 0),
-        },
-        _ => Ok(()),
-    }
-}
-
-fn take<F: Field>(rt: &impl Abort, sheet: &mut Worksheet<F>, call: &Call) -> Result<(), Fail>
-    requires { SheetMade (F.made sheet.old.field) (means (F.meaning sheet.old.field) (F.extras sheet.old.field)) sheet.old }
-    ensures { SheetMade (F.made sheet.new.field) (means (F.meaning sheet.new.field) (F.extras sheet.new.field)) sheet.new }
+// Makes a call, or looks at what stands.
+fn make<F: Field>(rt: &impl Abort, sheet: &mut Worksheet<F>, call: &Call, scratch: &mut [u16])
+    requires { SheetMade F.Field sheet.old }
+    ensures { SheetMade F.Field sheet.new }
 {
     let mut buffer = [9u16; MOST_CODES];
     match call {
-        Call::Take(number, codes) => match sheet.take(*number, &mut buffer) {
-            Ok(d) => {
-                assert_eq!(rt; d, codes.len().saturating_sub(1));
-                holds(rt, &buffer, codes)
-            }
-            Err(_) => Err(Fail::new("not taken")),
-        },
-        Call::NotTaken(number, room, why) => match sheet.take(
-            *number,
-            &mut buffer[..(*room).min(MOST_CODES)],
-        ) {
-            Ok(_) => Err(Fail::new("taken")),
-            Err(e) => refused(rt, e, *why, 3, 0),
-        },
-        _ => Ok(()),
-    }
-}
-
-fn stands<F: Field>(rt: &impl Abort, sheet: &Worksheet<F>, call: &Call) -> Result<(), Fail>
-    requires { SheetMade (F.made sheet.now.field) (means (F.meaning sheet.now.field) (F.extras sheet.now.field)) sheet.now }
-{
-    let mut buffer = [9u16; MOST_CODES];
-    match call {
+        Call::Enter(f, degree) => assert_eq!(rt; sheet.enter(f).ok(), Some(*degree)),
+        Call::NotEntered(f, why) => refused(rt, sheet.enter(f), *why),
+        Call::Step(kind, left, right) => {
+            let told = sheet.step(scratch).ok();
+            let told = told.map(|(kind, left, right)| (kind.number(), left, right));
+            assert_eq!(rt; told, Some((*kind, *left, *right)));
+        }
+        Call::NotStepped(why) => refused(rt, sheet.step(scratch), *why),
+        Call::Take(number, codes) => {
+            let degree = sheet.take(*number, &mut buffer).ok();
+            assert_eq!(rt; degree, Some(codes.len().saturating_sub(1)));
+            holds(rt, &buffer, codes);
+        }
+        Call::NotTaken(number, room, why) => {
+            let out = &mut buffer[..(*room).min(MOST_CODES)];
+            refused(rt, sheet.take(*number, out), *why);
+        }
+        Call::NotRead(number, room, why) => {
+            let out = &mut buffer[..(*room).min(MOST_CODES)];
+            refused(rt, sheet.read(*number, out), *why);
+        }
         Call::Unit(unit, open) => {
-            assert!(rt; sheet.unit() == *unit && sheet.open_count() == *open);
-            Ok(())
-        },
-        Call::Count(count) => {
-            assert_eq!(rt; sheet.count(), *count);
-            Ok(())
-        },
-        Call::Part(number, codes, times, open) => match sheet.read(*number, &mut buffer) {
-            Ok((d, n, mark)) => {
-                assert_eq!(rt; d, codes.len().saturating_sub(1));
-                assert!(rt; n == *times && mark.is_open() == *open);
-                holds(rt, &buffer, codes)
-            }
-            Err(_) => Err(Fail::new("not read")),
-        },
-        Call::NotRead(number, room, why) => match sheet.read(
-            *number,
-            &mut buffer[..(*room).min(MOST_CODES)],
-        ) {
-            Ok(_) => Err(Fail::new("read")),
-            Err(e) => refused(rt, e, *why, 3, 0),
-        },
-        _ => Ok(()),
+            assert_eq!(rt; (sheet.unit(), sheet.open_count()), (*unit, *open));
+        }
+        Call::Part(number, codes, times, open) => {
+            let part = sheet.read(*number, &mut buffer).ok();
+            let part = part.map(|(degree, times, mark)| (degree, times, mark.is_open()));
+            assert_eq!(rt; part, Some((codes.len().saturating_sub(1), *times, *open)));
+            holds(rt, &buffer, codes);
+        }
+        Call::Count(count) => assert_eq!(rt; sheet.count(), *count),
     }
 }
 
-fn play<F: Field>(
-    rt: &impl Abort,
-    sheet: &mut Worksheet<F>,
-    calls: &[Call],
-    scratch: &mut [u16],
-) -> Result<(), Fail>
-    requires { SheetMade (F.made sheet.old.field) (means (F.meaning sheet.old.field) (F.extras sheet.old.field)) sheet.old }
-    ensures { SheetMade (F.made sheet.new.field) (means (F.meaning sheet.new.field) (F.extras sheet.new.field)) sheet.new }
+fn play<F: Field>(rt: &impl Abort, sheet: &mut Worksheet<F>, calls: &[Call], scratch: &mut [u16])
+    requires { SheetMade F.Field sheet.old }
+    ensures { SheetMade F.Field sheet.new }
 {
     for call in calls {
-        enter(rt, sheet, call)?;
-        step(rt, sheet, call, scratch)?;
-        take(rt, sheet, call)?;
-        stands(rt, sheet, call)?;
+        make(rt, sheet, call, scratch);
     }
-    Ok(())
 }
 
 // Plays a list of calls on a worksheet of its own, with this much scratch.
@@ -177,18 +87,19 @@ fn plays<F: Field>(
     requires { F.made field }
 {
     let mut sheet = Worksheet::new(Room::new(rt.alloc())?, field);
-    play(rt, &mut sheet, calls, scratch)
+    play(rt, &mut sheet, calls, scratch);
+    Ok(())
 }
 
 // X^16 + X^12 + X^5 + 1 over order 2
 const FRAME_CHECK: [Call; 9] = [
-    Call::NotStepped(22),
+    Call::NotStepped(Refusal(22, 3, 0)),
     Call::Enter(&[1, 0, 0, 0, 0, 1, 0, 0, 0, 0, 0, 0, 1, 0, 0, 0, 1], 16),
     Call::Step(3, 1, 15),
     Call::Step(4, 1, 0),
     Call::Unit(1, 1),
     Call::Step(4, 15, 0),
-    Call::NotStepped(22),
+    Call::NotStepped(Refusal(22, 3, 0)),
     Call::Part(0, &[1, 1], 1, false),
     Call::Part(
         1,
@@ -209,10 +120,10 @@ const NO_ZERO: [Call; 5] = [
 
 // operands that are refused, and those at the border that are not, over order 3
 const ENTRIES: [Call; 13] = [
-    Call::NotEntered(&[], 10, 2, 0),
-    Call::NotEntered(&[0, 1, 3, 4, 0], 11, 2, 2),
-    Call::NotEntered(&[1, 2, 0], 12, 2, 2),
-    Call::NotEntered(&[0], 20, 3, 0),
+    Call::NotEntered(&[], Refusal(10, 2, 0)),
+    Call::NotEntered(&[0, 1, 3, 4, 0], Refusal(11, 2, 2)),
+    Call::NotEntered(&[1, 2, 0], Refusal(12, 2, 2)),
+    Call::NotEntered(&[0], Refusal(20, 3, 0)),
     Call::Unit(1, 0),
     Call::Count(0),
     Call::Enter(&[2], 0),
@@ -226,20 +137,20 @@ const ENTRIES: [Call; 13] = [
 
 // X^3 + X^2 + 2X + 2 over order 3, with takes between steps, a part entered again after it was taken, and one that stands settled
 const TAKES: [Call; 30] = [
-    Call::NotTaken(0, 128, 24),
+    Call::NotTaken(0, 128, Refusal(24, 3, 0)),
     Call::Enter(&[2, 2, 1, 1], 3),
-    Call::NotTaken(0, 128, 25),
-    Call::NotTaken(0, 0, 25),
-    Call::NotTaken(1, 128, 24),
-    Call::NotRead(1, 128, 24),
-    Call::NotRead(0, 3, 14),
+    Call::NotTaken(0, 128, Refusal(25, 3, 0)),
+    Call::NotTaken(0, 0, Refusal(25, 3, 0)),
+    Call::NotTaken(1, 128, Refusal(24, 3, 0)),
+    Call::NotRead(1, 128, Refusal(24, 3, 0)),
+    Call::NotRead(0, 3, Refusal(14, 3, 0)),
     Call::Part(0, &[2, 2, 1, 1], 1, true),
     Call::Step(2, 1, 2),
     Call::Part(0, &[1, 1], 1, true),
     Call::Part(1, &[2, 0, 1], 1, true),
     Call::Step(4, 1, 0),
-    Call::NotTaken(0, 1, 14),
-    Call::NotRead(0, 1, 14),
+    Call::NotTaken(0, 1, Refusal(14, 3, 0)),
+    Call::NotRead(0, 1, Refusal(14, 3, 0)),
     Call::Step(3, 1, 1),
     Call::Part(0, &[1, 1], 2, false),
     Call::Part(1, &[2, 1], 1, true),
@@ -254,7 +165,7 @@ const TAKES: [Call; 30] = [
     Call::Part(0, &[1, 1], 2, false),
     Call::Unit(1, 1),
     Call::Step(4, 1, 0),
-    Call::NotStepped(22),
+    Call::NotStepped(Refusal(22, 3, 0)),
     Call::Unit(1, 0),
 ];
 
@@ -291,14 +202,14 @@ fn lists(rt: HostRuntime) -> Result<(), Fail> {
 
 // The highest total degree, over order 3: X^127, then X is refused and a constant is not.
 const FULL: [Call; 4] = [
-    Call::NotEntered(&[0, 1], 21, 3, 0),
-    Call::NotEntered(&[0], 20, 3, 0),
+    Call::NotEntered(&[0, 1], Refusal(21, 3, 0)),
+    Call::NotEntered(&[0], Refusal(20, 3, 0)),
     Call::Enter(&[2], 0),
     Call::Unit(2, 1),
 ];
 
 // 2 times 127 times 127 codes of scratch are enough for it, and one less is not
-const SHORT: [Call; 1] = [Call::NotStepped(23)];
+const SHORT: [Call; 1] = [Call::NotStepped(Refusal(23, 3, 0))];
 
 const LONG: [Call; 3] = [
     Call::Step(2, 126, 1),
@@ -311,14 +222,12 @@ fn full(rt: HostRuntime) -> Result<(), Fail> {
     let mut sheet = Worksheet::new(Room::new(rt.alloc())?, PrimeField::new(3)?);
     let mut power = [0u16; 129];
     power[127] = 1;
-    assert_eq!(rt; sheet.enter(&power[..128]).ok().unwrap_or(0), 127);
-    play(&rt, &mut sheet, &FULL, &mut [])?;
-    play(&rt, &mut sheet, &SHORT, &mut [9u16; 32257])?;
-    play(&rt, &mut sheet, &LONG, &mut [9u16; 32258])?;
-    match sheet.enter(&power) {
-        Ok(_) => Err(Fail::new("129 codes")),
-        Err(e) => refused(&rt, e, 10, 2, 0),
-    }
+    assert_eq!(rt; sheet.enter(&power[..128]).ok(), Some(127));
+    play(&rt, &mut sheet, &FULL, &mut []);
+    play(&rt, &mut sheet, &SHORT, &mut [9u16; 32257]);
+    play(&rt, &mut sheet, &LONG, &mut [9u16; 32258]);
+    refused(&rt, sheet.enter(&power), Refusal(10, 2, 0));
+    Ok(())
 }
 
 // towers: order 16 over order 4 over order 2, order 256 over that, order 9 over 3, order 65,536 over the symbol field
@@ -327,7 +236,7 @@ const SIXTEEN: [Call; 7] = [
     Call::Step(1, 2, 0),
     Call::Step(1, 1, 0),
     Call::Step(4, 1, 0),
-    Call::NotStepped(22),
+    Call::NotStepped(Refusal(22, 3, 0)),
     Call::Part(0, &[4, 1], 4, false),
     Call::Count(1),
 ];
@@ -384,37 +293,31 @@ fn towers(rt: HostRuntime) -> Result<(), Fail> {
     )
 }
 
-// modulus of the prime field, k, m, the number of the refusal (0 for none)
-const EXTENSIONS: [(u32, u32, u32, u8); 16] = [
-    (2, 1, 0, 3),
-    (2, 2, 0, 6),
-    (2, 2, 1, 6),
-    (2, 2, 2, 6),
-    (2, 2, 3, 0),
-    (2, 2, 4, 5),
-    (2, 16, 43, 0),
-    (2, 16, 1, 6),
-    (2, 16, 65536, 5),
-    (2, 17, 0, 3),
-    (3, 2, 8, 0),
-    (3, 2, 9, 5),
-    (3, 11, 0, 4),
-    (3, 17, 0, 3),
-    (251, 2, 1, 0),
-    (251, 3, 1, 4),
+// modulus of the prime field, k, m, the number of the refusal
+const EXTENSIONS: [(u32, u32, u32, Option<u8>); 16] = [
+    (2, 1, 0, Some(3)),
+    (2, 2, 0, Some(6)),
+    (2, 2, 1, Some(6)),
+    (2, 2, 2, Some(6)),
+    (2, 2, 3, None),
+    (2, 2, 4, Some(5)),
+    (2, 16, 43, None),
+    (2, 16, 1, Some(6)),
+    (2, 16, 65536, Some(5)),
+    (2, 17, 0, Some(3)),
+    (3, 2, 8, None),
+    (3, 2, 9, Some(5)),
+    (3, 11, 0, Some(4)),
+    (3, 17, 0, Some(3)),
+    (251, 2, 1, None),
+    (251, 3, 1, Some(4)),
 ];
 
 #[test]
 fn extensions(rt: HostRuntime) -> Result<(), Fail> {
     for (p, k, m, number) in EXTENSIONS {
-        match Extension::new(PrimeField::new(p)?, k, m) {
-            Ok(_) => assert_eq!(rt; number, 0),
-            Err(e) => {
-                assert_eq!(rt; e.number(), number);
-                assert_eq!(rt; e.layer(), 1);
-                assert_eq!(rt; e.index(), 0);
-            }
-        }
+        let made = Extension::new(PrimeField::new(p)?, k, m);
+        assert_eq!(rt; refusal_in(made), number.map(of_field));
     }
     Ok(())
 }
