@@ -1,6 +1,7 @@
 -- The product of two rows, from the highest code of the left one down, is the remainder of the product of their polynomials.
--- Main statements: Reduced, horner_none, horner_more, horner_all.
+-- Main statements: Reduced, horner_none, horner_more, horner_moved, horner_all.
 use Rattle.std.proofs.Common.{◌≡◌, ℕ, zero, suc, ◌+◌, ◌-◌, ◌<◌, ◌≤◌, List, [], ◌∷◌, ◌++◌, length, drop, replicate, sym, refl, ap, ◌∙◌, subst, ap₂, arith, get_or-drop}
+use Rattle.std.specs.List.{RotatedRight}
 use native.Mathlib.Decide.{dec_lt}
 use lib.ListN.{length-replicate, get_or-replicate, get_or-eq_default, get_or-append}
 use Rattle.algebra.specs.Ring.{Scalars}
@@ -17,7 +18,7 @@ use Rattle.field.specs.Quotient.{from_digits, modulus, lowered, reduced_by}
 use Rattle.field.specs.Rows.{IsRow, stepped}
 use Rattle.field.specs.Coefficients.{map_below_at}
 use Rattle.field.specs.Digits.{digits_number}
-use Rattle.field.specs.Scalars.{Code, CodeScalars, sum_codes, product_codes, zero_is_code, zero_code, product_zero}
+use Rattle.field.specs.Scalars.{Code, CodeScalars, sum_codes, product_codes, zero_is_code, zero_code, product_zero, zero_product, opposite_zero}
 use Rattle.field.specs.Polynomials.{Coded, P as CodePoly, code_at, poly_of, poly_of_code, poly_of_is, product_canonical, poly_product_coded}
 use Rattle.field.specs.Quotients.{modulus_poly, lowered_poly, lowered_coded, lowered_length}
 use Rattle.field.proofs.Remainders.{monic_poly_is, reduced_by_unique}
@@ -141,6 +142,25 @@ module _ (r : RingMeaning) (L : RingLaws r) (lower : List ℕ) (some : 1 ≤ len
         moved : poly_of r L new ≡ X S ⊗ poly_of r L row ⊕ neg (const S c ⊗ M) ⊕ const S a' ⊗ pr
         moved = parts ∙ ap (λ (x : P). x ⊕ const S a' ⊗ pr) (lowered_poly r L k n some 0 row up w.coded w.long c refl ∙ ap (λ (x : P). x ⊕ neg (const S c ⊗ M)) shifted)
 
+    -- a step with nothing to take off and nothing to add only moves the row up by one place
+    moved_up : (row new : List ℕ) → Coded r row → coefficient row (length row - 1) ≡ 0 → length new ≡ length row → RotatedRight row new (length row) 1 → IsRow new (length row) (stepped r lower 0 right row)
+    moved_up row new h e long t = record { sized = long; at = λ i l. above i l ∙ sym (same i) }
+      where
+        up : (i : ℕ) → coefficient (0 ∷ row) i < r.order
+        up zero = zero_is_code r L
+        up (suc i) = h i
+
+        above : (i : ℕ) → i < length row → coefficient new i ≡ coefficient (0 ∷ row) i
+        above zero l = t.0 0 0 (omega arith) ∙ ap (coefficient row) (let s : length row - 1 + 0 ≡ length row - 1 = omega arith in s) ∙ e
+        above (suc i) l = t.1 (suc i) 0 (omega arith) l ∙ ap (coefficient row) (let s : suc i - 1 ≡ i = omega arith in s)
+
+        same : (i : ℕ) → stepped r lower 0 right row i ≡ coefficient (0 ∷ row) i
+        same i =
+            ap₂ (λ (x y : ℕ). r.sum (r.sum (coefficient (0 ∷ row) i) (r.opposite x)) y)
+            (ap (λ (x : ℕ). r.product x (coefficient lower i)) e ∙ zero_product r L (coefficient lower i) (hm i)) (zero_product r L (coefficient right i) (hr i))
+            ∙ ap (λ (x : ℕ). r.sum (r.sum (coefficient (0 ∷ row) i) x) 0) (opposite_zero r L)
+            ∙ ap (λ (x : ℕ). r.sum x 0) (L.sum_zero _ (up i)) ∙ L.sum_zero _ (up i)
+
     module _ (left : List ℕ) (hl : Coded r left) where
       -- before the first turn of the loop, at each turn and at its end
       pub horner_none : (row : List ℕ) → row ≡ replicate k 0 → Reduced (drop (length left - 0) left) right row
@@ -152,6 +172,11 @@ module _ (r : RingMeaning) (L : RingLaws r) (lower : List ℕ) (some : 1 ≤ len
           subst (λ (xs : List ℕ). Reduced xs right new) (sym (top_more left i n x t next))
           (reduced_more x (drop (length left - i) left) row new (subst (λ (y : ℕ). y < r.order) (sym t.value) (hl (length left - i - 1))) (λ j. subst (λ (y : ℕ). y < r.order) (sym (get_or-drop (length left - i) left j 0)) (hl (length left - i + j))) w
           (subst (λ (j : ℕ). IsRow new j (stepped r lower x right row)) w.long s))
+
+      pub horner_moved : (i n x : ℕ) (row new : List ℕ) → FromTop left i x → n ≡ i + 1 → x ≡ 0 → coefficient row (length row - 1) ≡ 0 → Reduced (drop (length left - i) left) right row →
+          length new ≡ length row → RotatedRight row new (length row) 1 → Reduced (drop (length left - n) left) right new
+      horner_moved i n x row new t next none e w long turned =
+          horner_more i n x row new t next w (subst (λ (a : ℕ). IsRow new (length row) (stepped r lower a right row)) (sym none) (moved_up row new w.coded e long turned))
 
       pub horner_all : (i : ℕ) (row : List ℕ) → i ≡ length left → Reduced (drop (length left - i) left) right row → row ≡ reduced_by r lower (product r left right)
       horner_all i row all w =

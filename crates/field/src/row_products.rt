@@ -44,7 +44,12 @@ pub(crate) fn multiply_rows<R: Ring>(
 {
     row.fill(0);
     for code in left.iter().rev() {
-        step_row(ring, lower, *code, right, row);
+        if *code == 0 && row[row.len() - 1] == 0 {
+            // nothing is taken off and nothing added: the row only moves up
+            row.rotate_right(1);
+        } else {
+            step_row(ring, lower, *code, right, row);
+        }
     }
 }
 
