@@ -1,5 +1,5 @@
 -- The length of a row without the zeros at its end, from the place of its last code that is not zero.
--- Main statement: trimmed_after_last.
+-- Main statements: trimmed_take, trimmed_after_last.
 use Rattle.std.proofs.Common.{◌≡◌, ℕ, zero, suc, ◌+◌, ◌-◌, ◌<◌, ◌≤◌, ◌≢◌, List, [], ◌∷◌, length, get_or, take, Some, None, Option, sym, refl, ap, ◌∙◌, subst, ap₂, arith}
 use native.Mathlib.Decide.{dec_lt}
 use Rattle.std.proofs.lemmas.List.{length-take-le, get_or-take, get_or_past}
@@ -8,7 +8,7 @@ use Rattle.field.specs.Polynomial.{before_trimmed, trimmed, or_zero}
 use Rattle.field.proofs.Rows.{trimmed_one, trimmed_all}
 
 -- zeros at the end are dropped
-trimmed_take : (row : List ℕ) (n : ℕ) → ((k : ℕ) → n ≤ k → get_or row k 0 ≡ 0) → trimmed (take n row) ≡ trimmed row
+pub trimmed_take : (row : List ℕ) (n : ℕ) → ((k : ℕ) → n ≤ k → get_or row k 0 ≡ 0) → trimmed (take n row) ≡ trimmed row
 unfolding trimmed
 trimmed_take [] zero h = refl
 trimmed_take [] (suc n) h = refl

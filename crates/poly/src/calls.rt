@@ -4,7 +4,7 @@ ghost use Rattle.poly.specs.Calls.{Sums, Multiplies, Derives, evaluates, Divisio
 use crate::checks::check;
 use crate::delivery::{deliver, deliver_both};
 use crate::division::{Divisor, common_divisor};
-use crate::rows::{add_codes, derive_codes, evaluate, multiply_codes, padded};
+use crate::rows::{add_codes, derive_codes, evaluate, multiply_codes};
 use crate::{MOST_CODES, PolyFault};
 use field::{Field, Ring};
 
@@ -77,9 +77,11 @@ pub fn divide<F: Field>(
     check(field, f)?;
     check(field, g)?;
     let divisor = Divisor::new(field, g).ok_or(PolyFault::ZeroDivisor)?;
-    let mut rests = padded(f);
-    let quotients = divisor.divide(&mut rests);
-    deliver_both(&quotients, &rests, quotient, remainder)
+    let mut rests = [0; MOST_CODES];
+    let row = &mut rests[..f.len()];
+    row.copy_from_slice(f);
+    let quotients = divisor.divide(row);
+    deliver_both(&quotients[..f.len()], row, quotient, remainder)
 }
 
 // The greatest common divisor of f and g, over a field: monic, and zero for two zero polynomials.

@@ -1,53 +1,57 @@
-ghost use Rattle.std.specs.Prelude.{◌≡◌, ◌≢◌, ℕ, ◌<◌, ◌≤◌, length, IfSome, IfNone};
+ghost use Rattle.std.specs.Prelude.{◌≡◌, ◌≢◌, ℕ, ◌<◌, ◌≤◌, length, slice_index, IfSome, IfNone};
 ghost use Rattle.field.specs.Ring.{one};
 ghost use Rattle.field.specs.Polynomial.{coefficient, leading, zero_polynomial, trimmed, or_zero, Canonical, IsDivision, IsCommonDivisor};
 ghost use Rattle.poly.specs.Faults.{most_codes};
 
 use crate::MOST_CODES;
 use crate::rows::{add_multiple, padded, polynomial_of};
-use field::{Field, scale};
+use field::{Field, Ring, scale};
 
-// A polynomial to divide by, with the inverse of its last code.
+// A polynomial to divide by, over any ring, with an inverse of its last code: for a monic one that is one.
 #[derive(Drop)]
-pub(crate) struct Divisor<'a, F: Field> {
-    field: &'a F,
+pub(crate) struct Divisor<'a, R: Ring> {
+    ring: &'a R,
     codes: &'a [u16],
     inverse: u16,
-    ghost canonical: { Canonical (F.meaning field.now) codes.now },
-    ghost inverts: { (F.meaning field.now).product (leading codes.now) inverse ≡ one (F.meaning field.now) },
+    ghost canonical: { Canonical (R.meaning ring.now) codes.now },
+    ghost inverts: { (R.meaning ring.now).product (leading codes.now) inverse ≡ one (R.meaning ring.now) },
 }
 
 impl<'a, F: Field> Divisor<'a, F> {
-    // A polynomial as a divisor: none for the zero polynomial.
+    // A polynomial over a field as a divisor: none for the zero polynomial.
     pub(crate) fn new(field: &'a F, codes: &'a [u16]) -> Option<Self>
         requires made { F.made field.now }
         requires canonical { Canonical (F.meaning field.now) codes.now }
-        ensures some { IfSome result (λ d. (d.field.now ≡ field.now) × (d.codes.now ≡ codes.now) × (codes.now ≢ zero_polynomial)) }
+        ensures some { IfSome result (λ d. (d.ring.now ≡ field.now) × (d.codes.now ≡ codes.now) × (codes.now ≢ zero_polynomial)) }
         ensures none { IfNone result (codes.now ≡ zero_polynomial) }
     {
         let inverse = field.inverse(codes[codes.len() - 1])?;
         Some(Divisor {
-            field,
+            ring: field,
             codes,
             inverse,
         })
     }
+}
 
-    // Divides the codes of a row: the row becomes that of the remainder, and the answer is that of the quotient.
+impl<R: Ring> Divisor<'_, R> {
+    // Divides the codes of a row: the row becomes that of the remainder, and the answer is that of the quotient, with zeros from the
+    // row's length on.
     pub(crate) fn divide(&self, row: &mut [u16]) -> [u16; MOST_CODES]
-        requires made { F.made self.now.field.now }
-        requires codes { (i : ℕ) → coefficient row.old i < (F.meaning self.now.field.now).order }
+        requires made { R.made self.now.ring.now }
+        requires codes { (i : ℕ) → coefficient row.old i < (R.meaning self.now.ring.now).order }
         requires short { length row.old ≤ most_codes }
-        ensures { IsDivision (F.meaning self.now.field.now) (or_zero (trimmed row.old)) self.now.codes.now (or_zero (trimmed result)) (or_zero (trimmed row.new)) }
+        ensures division { IsDivision (R.meaning self.now.ring.now) (or_zero (trimmed row.old)) self.now.codes.now (or_zero (trimmed result)) (or_zero (trimmed row.new)) }
+        ensures past { (k : ℕ) → length row.old ≤ k → slice_index result k ≡ 0 }
     {
         let mut quotient = [0; MOST_CODES];
         let top = self.codes.len() - 1;
         // by index: each turn reads the row at one place and writes it at others
         for i in (top..row.len()).rev() {
             if row[i] != 0 {
-                let c = self.field.product(self.inverse, row[i]);
+                let c = self.ring.product(self.inverse, row[i]);
                 quotient[i - top] = c;
-                add_multiple(self.field, self.field.opposite(c), self.codes, i - top, row);
+                add_multiple(self.ring, self.ring.opposite(c), self.codes, i - top, row);
             }
         }
         quotient

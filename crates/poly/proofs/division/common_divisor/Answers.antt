@@ -20,8 +20,8 @@ new-requires-clause-canonical g c =
 divided : (g : given.Over) (c : goal.After-swap g) → IsDivision (g.F.Ring.meaning c.args.field.now) (or_zero (trimmed c.loop-d.dividend)) (or_zero (trimmed c.loop-d.divisor)) (or_zero (trimmed c.divide.result)) (or_zero (trimmed c.divide.new.row))
 divided g c =
     let d = c.in-Some.d in
-    same_division g.F.Ring.meaning d.field.now c.args.field.now c.in-Some.ensures.some.0 d.codes.now (or_zero (trimmed c.loop-d.divisor)) (c.in-Some.ensures.some.1 ∙ c.polynomial_of.ensures)
-    (or_zero (trimmed c.loop-d.dividend)) (or_zero (trimmed c.divide.result)) (or_zero (trimmed c.divide.new.row)) c.divide.ensures
+    same_division g.F.Ring.meaning d.ring.now c.args.field.now c.in-Some.ensures.some.0 d.codes.now (or_zero (trimmed c.loop-d.divisor)) (c.in-Some.ensures.some.1 ∙ c.polynomial_of.ensures)
+    (or_zero (trimmed c.loop-d.dividend)) (or_zero (trimmed c.divide.result)) (or_zero (trimmed c.divide.new.row)) c.divide.ensures.division
 
 pub loop-d-smaller : goal.loop-d-smaller
 loop-d-smaller g c =

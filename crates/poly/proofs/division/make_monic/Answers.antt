@@ -18,7 +18,7 @@ pub returns-in-Some : goal.returns-in-Some
 returns-in-Some g c =
     let m : RingMeaning = g.F.Ring.meaning c.args.field.now in
     let d = c.in-Some.divisor in
-    let unit = same_inverse g.F.Ring.meaning d.field.now c.args.field.now c.in-Some.ensures.some.0 d.codes.now (or_zero (trimmed c.args.row.now)) (c.in-Some.ensures.some.1 ∙ c.polynomial_of.ensures) d.inverse d.inverts in
+    let unit = same_inverse g.F.Ring.meaning d.ring.now c.args.field.now c.in-Some.ensures.some.0 d.codes.now (or_zero (trimmed c.args.row.now)) (c.in-Some.ensures.some.1 ∙ c.polynomial_of.ensures) d.inverse d.inverts in
     common_row m (g.met.F.Ring.ring c.args.field.now c.requires.made) c.args.row.now c.scale.new.row d.inverse c.requires.codes unit c.scale.ensures
 
 pub returns-in_default : goal.returns-in_default

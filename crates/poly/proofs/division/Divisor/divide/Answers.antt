@@ -1,4 +1,4 @@
-use Rattle.std.proofs.Common.{replicate, rules, arith}
+use Rattle.std.proofs.Common.{◌≢◌, ◌-◌, ◌∙◌, length, replicate, rules, arith, get_or-set_other}
 use Rattle.poly.proofs.Dividing.{dividing_none, dividing_skip, dividing_more, dividing_all, zeros_at}
 use Rattle.poly.proofs.division.Divisor.divide.Goals as goal
 
@@ -7,7 +7,8 @@ loop-i-init g c =
     let d = c.args.self.now in
     record {
       sized = search rules;
-      divides = λ L. dividing_none (g.F.Ring.meaning d.field.now) L c.args.row.now d.codes.now (replicate 128 0) c.requires.codes (zeros_at 128);
+      past = λ k h. zeros_at 128 k;
+      divides = λ L. dividing_none (g.R.Ring.meaning d.ring.now) L c.args.row.now d.codes.now (replicate 128 0) c.requires.codes (zeros_at 128);
     }
 
 pub loop-i-preserved : goal.loop-i-preserved
@@ -15,7 +16,8 @@ loop-i-preserved g c =
     let d = c.args.self.now in
     record {
       sized = c.loop-i.invariant.sized;
-      divides = λ L. dividing_skip (g.F.Ring.meaning d.field.now) L c.args.row.now d.codes.now c.loop-i.quotient c.loop-i.row c.loop-i.i (omega arith) (c.loop-i.invariant.divides L) (search rules);
+      past = c.loop-i.invariant.past;
+      divides = λ L. dividing_skip (g.R.Ring.meaning d.ring.now) L c.args.row.now d.codes.now c.loop-i.quotient c.loop-i.row c.loop-i.i (omega arith) (c.loop-i.invariant.divides L) (search rules);
     }
 
 pub loop-i-preserved-then-row-i-ne0 : goal.loop-i-preserved-then-row-i-ne0
@@ -23,14 +25,18 @@ loop-i-preserved-then-row-i-ne0 g c =
     let d = c.args.self.now in
     record {
       sized = search rules;
-      divides = λ L. dividing_more (g.F.Ring.meaning d.field.now) L c.args.row.now d.codes.now c.loop-i.quotient c.loop-i.row d.inverse c.loop-i.i
+      past = λ k h.
+          let p = c.loop-i.i - 1 - (length d.codes.now - 1) in
+          let ne : k ≢ p = omega arith in
+          get_or-set_other c.loop-i.quotient p k c.product-c.result 0 ne ∙ c.loop-i.invariant.past k h;
+      divides = λ L. dividing_more (g.R.Ring.meaning d.ring.now) L c.args.row.now d.codes.now c.loop-i.quotient c.loop-i.row d.inverse c.loop-i.i
           d.canonical d.inverts (omega arith) (c.loop-i.invariant.divides L) c.product-c.result c.opposite.result c.add_multiple.new.row
           (omega (arith, c.loop-i.invariant.sized)) c.product-c.ensures c.opposite.ensures c.add_multiple.ensures;
     }
 
-pub returns : goal.returns
-returns g c =
+pub returns-clause-division : goal.returns-clause-division
+returns-clause-division g c =
     let d = c.args.self.now in
-    let L = g.met.F.Ring.ring d.field.now c.requires.made in
-    dividing_all (g.F.Ring.meaning d.field.now) L c.args.row.now d.codes.now c.loop-i.quotient c.loop-i.row
+    let L = g.met.R.Ring.ring d.ring.now c.requires.made in
+    dividing_all (g.R.Ring.meaning d.ring.now) L c.args.row.now d.codes.now c.loop-i.quotient c.loop-i.row
     c.loop-i.i (omega arith) c.requires.codes d.canonical (c.loop-i.invariant.divides L)
