@@ -31,12 +31,9 @@ pub fn split<F: Field>(
     ensures once { OneSplitting }
     ensures whole { WholeUnsplittable }
 {
-    let operand = Operand::new(field, f)?;
+    // one none for both refusals: a caller whose f is taken knows what the answer means
+    let operand = Operand::new(field, f, scratch.len())?;
     let d = f.len() - 1;
-    // none for this too: a caller whose f is taken knows what the answer means
-    if scratch.len() < 2 * d * d {
-        return None;
-    }
     let guard = Scratch {
         codes: scratch,
         used: 2 * d * d,

@@ -10,12 +10,6 @@ returns-in_err-operand-clause-once g c = one_splitting
 pub returns-in_err-operand-clause-whole : goal.returns-in_err-operand-clause-whole
 returns-in_err-operand-clause-whole g c = whole_unsplittable
 
-pub returns-then-scratch-d-clause-once : goal.returns-then-scratch-d-clause-once
-returns-then-scratch-d-clause-once g c = one_splitting
-
-pub returns-then-scratch-d-clause-whole : goal.returns-then-scratch-d-clause-whole
-returns-then-scratch-d-clause-whole g c = whole_unsplittable
-
 pub returns : goal.returns
 returns g c =
     let d : ℕ = length c.args.f.now - 1 in
@@ -25,7 +19,7 @@ returns g c =
     record {
       works = (
         rw (o.ensures.0, o.ensures.1) at o.operand.taken,
-        c.if-scratch-d.false,
+        o.ensures.2,
         rw (o.ensures.0, o.ensures.1) at c.split.ensures.split,
         c.drop-guard.ensures ∙ wiped_same (2 * d * d) c.args.scratch.now c.split.new.codes c.split.auto.codes (λ k h. past k (omega arith)),
       );
