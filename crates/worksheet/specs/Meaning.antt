@@ -22,8 +22,8 @@ pub record RoomMade (r : Room) : Type 0 where
 abbrev pub over : {T : Type 0} → Told T → Worksheet T → FieldMeaning
 over t w = field_of t w.field
 
--- A worksheet that is well made: its field is, with the field laws; its parts are good over the field and stand in their arrays; and it
--- has place for the most parts, so that no call asks for memory.
+-- A worksheet that is well made: its field is, with the field laws; its parts are good over the field; and it has place for the most
+-- parts, so that no call asks for memory.
 pub record SheetMade {T : Type 0} (t : Told T) (w : Worksheet T) : Type 0 where
   pub base : t.made w.field
   pub laws : FieldLaws (field_of t w.field)

@@ -39,16 +39,17 @@ impl Part {
 
     // The codes of the part, the constant first.
     pub fn codes(&self) -> &[u16]
-        ensures { result.now ≡ (part_of self.now).codes }
+        ensures value { result.now ≡ (part_of self.now).codes }
+        ensures short { length result.now ≤ most_codes }
     {
-        &self.codes[..self.len]
+        &self.codes[..self.len.min(MOST_CODES)]
     }
 
     // The degree of the part.
     pub(crate) fn degree(&self) -> usize
         ensures { result ≡ degree (part_of self.now).codes }
     {
-        self.len - 1
+        self.codes().len().saturating_sub(1)
     }
 
     // The multiplicity of the part.

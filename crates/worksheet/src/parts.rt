@@ -1,6 +1,4 @@
 // The parts of a worksheet, and the worksheet that holds them.
-ghost use Rattle.std.specs.Prelude.{◌<◌, ◌≤◌, length};
-
 use poly::MOST_CODES;
 
 // Whether a part may still split, or is known not to.
@@ -10,15 +8,13 @@ pub enum Mark {
     Settled,
 }
 
-// A polynomial with its multiplicity. Its codes, 1 to 128, are the first `len` of the array, so that a part asks for no memory.
+// A polynomial with its multiplicity. Its codes are the first `len` of the array, so that a part asks for no memory.
 #[derive(Clone, Copy)]
 pub struct Part {
     pub(crate) codes: [u16; MOST_CODES],
     pub(crate) len: usize,
     pub(crate) times: u32,
     pub(crate) mark: Mark,
-    ghost some_code: { 0 < len },
-    ghost fits: { len ≤ length codes },
 }
 
 // Memory for the parts of one worksheet.

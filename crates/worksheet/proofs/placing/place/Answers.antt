@@ -37,7 +37,7 @@ returns-in-Some-clause-placed c =
     let p : Part = c.in-Some.part.now in
     let at = c.position-at.ensures ∙ ap (λ ys. place_of f (map part_of ys)) c.deref.ensures.value in
     let here = sym (ap (part_at ps) at) ∙ at_part xs c.position-at.result p c.in-Some.ensures.item.3.0 c.in-Some.ensures.value in
-    let same = sym c.codes.ensures ∙ (slice_eq-Decides Decides-eqb _ _ _ c.eq.ensures).0 c.if-eq.true in
+    let same = sym c.codes.ensures.value ∙ (slice_eq-Decides Decides-eqb _ _ _ c.eq.ensures).0 c.if-eq.true in
     map-set part_of xs c.position-at.result _ ∙ ap (λ k. set ps k (grown n (part_of p))) at ∙ sym (place_grows f n ps (part_of p) here same)
 
 pub returns-in_default-clause-placed : goal.returns-in_default-clause-placed
@@ -61,7 +61,7 @@ returns-in_default-clause-placed c =
     λ p here same. elim c.in_default.branch [
       | in_default-via-in-Some+else-eq w ↦
           let is = same_Some (part_of w.in-Some.part.now) p (sym (at_part xs i w.in-Some.part.now w.in-Some.ensures.item.3.0 w.in-Some.ensures.value) ∙ here) in
-          both_ways w.eq.result w.if-eq.false ((slice_eq-Decides Decides-eqb _ _ _ w.eq.ensures).1 (w.codes.ensures ∙ ap (λ (x : PartMeaning). x.codes) is ∙ same))
+          both_ways w.eq.result w.if-eq.false ((slice_eq-Decides Decides-eqb _ _ _ w.eq.ensures).1 (w.codes.ensures.value ∙ ap (λ (x : PartMeaning). x.codes) is ∙ same))
       | in_default-via-in-None-1 w ↦ (let past : length xs ≤ i = search rules in some_none (sym here ∙ no_part xs i past))
     ] in
     let ok : is_ok c.insert.result ≡ true = c.insert.ensures.succeeds room in

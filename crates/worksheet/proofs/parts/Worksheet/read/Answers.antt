@@ -40,7 +40,7 @@ returns-then-out-codes g c =
     let h = c.get.ensures.lookup in
     let p = c.in_ok-part.part in
     let here = gets c.deref.result.now (vec_items w.parts) i c.get.result (Some p) h.0 h.1 c.deref.ensures.value (ok_some c.get.result p (sym c.ok_or.ensures.value ∙ c.in_ok-part.was)) in
-    (read_short (sheet_of w) i c.args.out.now (part_of p.now) here (omega (arith, ap length c.codes-codes.ensures)), refl)
+    (read_short (sheet_of w) i c.args.out.now (part_of p.now) here (omega (arith, ap length c.codes-codes.ensures.value)), refl)
 
 pub returns : goal.returns
 returns g c =
@@ -50,7 +50,7 @@ returns g c =
     let h = c.get.ensures.lookup in
     let p = c.in_ok-part.part in
     let here = gets c.deref.result.now (vec_items w.parts) i c.get.result (Some p) h.0 h.1 c.deref.ensures.value (ok_some c.get.result p (sym c.ok_or.ensures.value ∙ c.in_ok-part.was)) in (
-      read_fits (sheet_of w) i out (part_of p.now) here (omega (arith, ap length c.codes-codes.ensures)),
-      gives_at _ (part_of p.now) out _ _ here c.degree.ensures (ap (λ (xs : List ℕ). xs ++ drop (length c.codes-codes.result.now) out) c.copy_from_slice.ensures.after ∙ ap (λ (xs : List ℕ). xs ++ drop (length xs) out) c.codes-codes.ensures),
+      read_fits (sheet_of w) i out (part_of p.now) here (omega (arith, ap length c.codes-codes.ensures.value)),
+      gives_at _ (part_of p.now) out _ _ here c.degree.ensures (ap (λ (xs : List ℕ). xs ++ drop (length c.codes-codes.result.now) out) c.copy_from_slice.ensures.after ∙ ap (λ (xs : List ℕ). xs ++ drop (length xs) out) c.codes-codes.ensures.value),
       tells_at _ (part_of p.now) here,
     )

@@ -31,12 +31,12 @@ returns-in_default-split g c =
     let here = at_part xs i p (omega (arith, ap length c.deref.ensures.value, c.in-Some.ensures.0)) c.index.ensures in
     let next = moved xs c.deref.result.now i (part_of p) c.deref.ensures.value c.in-Some.ensures.1 here in
     let refused = c.in_default-split.ensures.works in
-    let taken : Taken m f = subst (Taken m) (sym c.codes.ensures) (part_taken m (map part_of xs) c.requires.good.parts c.requires.good.fits i (part_of p) here) in
+    let taken : Taken m f = subst (Taken m) (sym c.codes.ensures.value) (part_taken m (map part_of xs) c.requires.good.parts c.requires.good.fits i (part_of p) here) in
     let short : length scratch < scratch_size f = elim (cases_lt (length scratch) (scratch_size f)) [ inl h ↦ h | inr h ↦ absurd (refused.0 taken h) ] in
     record {
       made = c.requires;
       same = refl;
-      stepped = (step_short (sheet_of w) scratch (part_of p) next (subst (λ (x : List ℕ). length scratch < scratch_size x) c.codes.ensures short), refl, refused.1);
+      stepped = (step_short (sheet_of w) scratch (part_of p) next (subst (λ (x : List ℕ). length scratch < scratch_size x) c.codes.ensures.value short), refl, refused.1);
       kept = refl;
     }
 
@@ -54,7 +54,7 @@ replace-requires g c =
         part = part_of p;
         here = here;
         next = moved xs c.deref.result.now i (part_of p) c.deref.ensures.value c.in-Some.ensures.1 here;
-        split = subst (λ (f : List ℕ). Split F f (replicate 128 0) (replicate 128 0) (numbered c.in-Some-split.told) c.split.new.first c.split.new.second) c.codes.ensures c.in-Some-split.ensures.works.2;
+        split = subst (λ (f : List ℕ). Split F f (replicate 128 0) (replicate 128 0) (numbered c.in-Some-split.told) c.split.new.first c.split.new.second) c.codes.ensures.value c.in-Some-split.ensures.works.2;
       };
     }
 
@@ -73,9 +73,9 @@ returns g c =
     let last = c.replace.new.self in
     let same : last.field ≡ w.field = c.replace.ensures.same in
     let stepped : Stepped F (sheet_of w) scratch (Ok (numbered c.in-Some-split.told)) (sheet_of last) after = (
-      step_fits (sheet_of w) scratch (part_of p) next (subst (λ (f : List ℕ). scratch_size f ≤ length scratch) c.codes.ensures works.1),
+      step_fits (sheet_of w) scratch (part_of p) next (subst (λ (f : List ℕ). scratch_size f ≤ length scratch) c.codes.ensures.value works.1),
       c.replace.ensures.replaced,
-      works.3 ∙ ap (λ (f : List ℕ). wiped (scratch_size f) scratch) c.codes.ensures ∙ sym (ap (λ (o : Option PartMeaning). wiped (scratch_of o) scratch) next),
+      works.3 ∙ ap (λ (f : List ℕ). wiped (scratch_size f) scratch) c.codes.ensures.value ∙ sym (ap (λ (o : Option PartMeaning). wiped (scratch_of o) scratch) next),
     ) in
     record {
       made = record {
