@@ -12,9 +12,9 @@ use extension::Extension;
 use field::{Field, PrimeField, Ring, SymbolField};
 use poly::MOST_CODES;
 use set::{FRAME_CHECK, GENERATOR, draw, linear_product};
+use std::env;
 use std::rt::{Clock, Env};
 use std::time::{Duration, Instant};
-use std::{env, fmt};
 use worksheet::{MOST_SCRATCH, MOST_STEPS, Room, Worksheet};
 
 // how often each polynomial is split for a time
@@ -46,8 +46,9 @@ struct Line<'a> {
     timed: bool,
 }
 
-impl fmt::Display for Line<'_> {
-    fn fmt<W: fmt::Write>(&self, f: &mut fmt::Formatter<W>) -> fmt::Result {
+impl Line<'_> {
+    // Prints it, part by part.
+    fn show(&self, rt: &impl Print) -> anyhow::Result<()> {
         let Line {
             name,
             order,
@@ -56,14 +57,12 @@ impl fmt::Display for Line<'_> {
             timed,
         } = *self;
         let Outcome { time, steps, parts } = outcome;
-        write!(
-            f,
-            "{name}: order {order} degree {degree} steps {steps} parts {parts}"
-        )?;
+        print!(rt; "{name}: order {order} degree {degree} steps {steps} parts {parts}")?;
         if timed {
             let nanoseconds = time.as_nanos();
-            write!(f, " nanoseconds {nanoseconds}")?;
+            print!(rt; " nanoseconds {nanoseconds}")?;
         }
+        println!(rt)?;
         Ok(())
     }
 }
@@ -153,8 +152,7 @@ impl<T: Print + Clock + AllocGlobal> Bench<'_, T> {
             outcome: best_of(self.rt, runs, field, f)?,
             timed: self.timed,
         };
-        println!(self.rt; "{line}")?;
-        Ok(())
+        line.show(self.rt)
     }
 
     // The polynomial of fixed codes of the greatest degree.

@@ -12,7 +12,6 @@ use anyhow::Context;
 use field::{PrimeField, Ring, SymbolField};
 use poly::{MOST_CODES, derivative, divide, gcd, product, value};
 use split::split;
-use std::fmt;
 use work::{FIRST_ROOT, ROOTS, generator, root};
 
 // X + 1, and the cofactor of X^16 + X^12 + X^5 + 1 over order 2
@@ -42,16 +41,16 @@ impl<'a> Polynomial<'a> {
             codes: &codes[..n.min(codes.len())],
         }
     }
-}
 
-impl fmt::Display for Polynomial<'_> {
-    fn fmt<W: fmt::Write>(&self, f: &mut fmt::Formatter<W>) -> fmt::Result {
+    // Prints it on a line, code by code.
+    fn show(&self, rt: &impl Print) -> anyhow::Result<()> {
         let order = self.order;
         let degree = self.codes.len().saturating_sub(1);
-        write!(f, "order {order} degree {degree} codes")?;
+        print!(rt; "order {order} degree {degree} codes")?;
         for c in self.codes {
-            write!(f, " {c}")?;
+            print!(rt; " {c}")?;
         }
+        println!(rt)?;
         Ok(())
     }
 }
@@ -63,7 +62,7 @@ fn reed_solomon(rt: &impl Print) -> anyhow::Result<()> {
         .ok()
         .context("the generator polynomial is refused")?;
     let polynomial = Polynomial::over(&field, &codes, n);
-    println!(rt; "{polynomial}")?;
+    polynomial.show(rt)?;
     let zeros = (FIRST_ROOT..FIRST_ROOT + ROOTS)
         .filter(|i| value(&field, polynomial.codes, root(&field, *i)) == Ok(0))
         .count();
@@ -85,7 +84,7 @@ fn frame_check(rt: &impl Print) -> anyhow::Result<()> {
         .ok()
         .context("the product is refused")?;
     let check = Polynomial::over(&field, &codes, n);
-    println!(rt; "{check}")?;
+    check.show(rt)?;
     against_derivative(rt, field, check.codes)?;
     split_once(rt, field, check.codes)
 }
@@ -104,17 +103,16 @@ fn against_derivative(rt: &impl Print, field: PrimeField, check: &[u16]) -> anyh
     let (k, l) = divide(&field, check, slope, &mut quotient, &mut remainder)
         .ok()
         .context("the division is refused")?;
-    let quotient = Polynomial::over(&field, &quotient, k);
-    println!(rt; "by its derivative: quotient {quotient}")?;
-    let remainder = Polynomial::over(&field, &remainder, l);
-    println!(rt; "by its derivative: remainder {remainder}")?;
+    print!(rt; "by its derivative: quotient ")?;
+    Polynomial::over(&field, &quotient, k).show(rt)?;
+    print!(rt; "by its derivative: remainder ")?;
+    Polynomial::over(&field, &remainder, l).show(rt)?;
     let mut common = [0u16; MOST_CODES];
     let d = gcd(&field, check, slope, &mut common)
         .ok()
         .context("the common divisor is refused")?;
-    let common = Polynomial::over(&field, &common, d);
-    println!(rt; "with its derivative: common divisor {common}")?;
-    Ok(())
+    print!(rt; "with its derivative: common divisor ")?;
+    Polynomial::over(&field, &common, d).show(rt)
 }
 
 // One splitting step, with the two pieces.
@@ -129,11 +127,8 @@ fn split_once(rt: &impl Print, field: PrimeField, check: &[u16]) -> anyhow::Resu
     )?;
     let number = kind.number();
     println!(rt; "splits as ({number},{left},{right})")?;
-    let first = Polynomial::over(&field, &first, left.saturating_add(1));
-    println!(rt; "{first}")?;
-    let second = Polynomial::over(&field, &second, right.saturating_add(1));
-    println!(rt; "{second}")?;
-    Ok(())
+    Polynomial::over(&field, &first, left.saturating_add(1)).show(rt)?;
+    Polynomial::over(&field, &second, right.saturating_add(1)).show(rt)
 }
 
 fn run(rt: &impl Print) -> anyhow::Result<()> {
