@@ -1,26 +1,26 @@
 -- Division of a row of codes from the top down, by a polynomial whose last code has an inverse: before each turn the codes from place n
 -- on are zero, and the quotient so far times the divisor, plus the row, is the dividend.
--- Main statements: zeros_at; Dividing, dividing_none, dividing_more, dividing_skip, dividing_all.
-use Rattle.std.proofs.Common.{◌≡◌, ℕ, ◌+◌, ◌-◌, ◌<◌, ◌≤◌, ◌≢◌, List, [], ◌∷◌, length, get_or, replicate, set, sym, refl, ap, ◌∙◌, subst, ap₂, arith}
+-- Main statements: zeros_past; Dividing, dividing_none, dividing_more, dividing_skip, dividing_all.
+use Rattle.std.proofs.Common.{◌≡◌, ℕ, ◌+◌, ◌-◌, ◌<◌, ◌≤◌, ◌≢◌, List, [], ◌∷◌, length, get_or, set, sym, refl, ap, ◌∙◌, subst, ap₂, arith}
 use native.Mathlib.Decide.{dec_lt, ℕ_discrete}
-use Rattle.std.proofs.lemmas.List.{get_or_past, get_or-replicate, length-replicate, get_or-set_same, get_or-set_other}
+use Rattle.std.proofs.lemmas.List.{get_or_past, get_or-set_same, get_or-set_other}
 use Rattle.algebra.specs.Ring.{Ring}
 use Rattle.algebra.proofs.Laws.{zero_⊕, zero_⊗}
 use Rattle.algebra.proofs.Solver.{◌:+◌, ◌:*◌, :neg, ring, A, B, C, D}
 use Rattle.algebra.proofs.Poly.{Polys}
 use Rattle.field.specs.Ring.{RingMeaning, RingLaws, one}
 use Rattle.field.specs.Polynomial.{coefficient, degree, leading, trimmed, or_zero, Canonical, IsDivision}
-use Rattle.field.specs.Rows.{Written}
+use Rattle.field.specs.Rows.{IsRow, Written}
 use Rattle.field.specs.Scalars.{CodeScalars, zero_is_code}
 use Rattle.field.specs.Polynomials.{P, Coded, code_at, poly_of}
 use Rattle.field.proofs.RowPolynomials.{poly_nothing, monomial, monomial_opposite, poly_added, poly_placed}
 use Rattle.field.proofs.Divisions.{rows_division, taken_away}
 
--- a row of zeros
-pub zeros_at : (n i : ℕ) → get_or {A = ℕ} (replicate n 0) i 0 ≡ 0
-zeros_at n i = elim (dec_lt i n) [
-  | yes h ↦ get_or-replicate n i 0 0 h
-  | no h ↦ get_or_past (replicate n 0) i 0 (omega (arith, length-replicate {A = ℕ} n 0))
+-- of a row of zeros each code is 0, past its end too
+pub zeros_past : (row : List ℕ) (n : ℕ) → IsRow row n (λ _. 0) → (i : ℕ) → get_or row i 0 ≡ 0
+zeros_past row n w i = elim (dec_lt i n) [
+  | yes h ↦ w.at i h
+  | no h ↦ get_or_past row i 0 (omega (arith, w.sized))
 ]
 
 module _ (m : RingMeaning) (L : RingLaws m) where

@@ -80,8 +80,10 @@ pub fn divide<F: Field>(
     let mut rests = [0; MOST_CODES];
     let row = &mut rests[..f.len()];
     row.copy_from_slice(f);
-    let quotients = divisor.divide(row);
-    deliver_both(&quotients[..f.len()], row, quotient, remainder)
+    let mut quotients = [0; MOST_CODES];
+    let times = &mut quotients[..f.len()];
+    divisor.divide(row, times);
+    deliver_both(times, row, quotient, remainder)
 }
 
 // The greatest common divisor of f and g, over a field: monic, and zero for two zero polynomials.

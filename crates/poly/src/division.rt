@@ -1,6 +1,7 @@
-ghost use Rattle.std.specs.Prelude.{◌≡◌, ◌≢◌, ℕ, ◌<◌, ◌≤◌, length, slice_index, IfSome, IfNone};
+ghost use Rattle.std.specs.Prelude.{◌≡◌, ◌≢◌, ℕ, ◌<◌, ◌≤◌, length, IfSome, IfNone};
 ghost use Rattle.field.specs.Ring.{one};
 ghost use Rattle.field.specs.Polynomial.{coefficient, leading, zero_polynomial, trimmed, or_zero, Canonical, IsDivision, IsCommonDivisor};
+ghost use Rattle.field.specs.Rows.{IsRow};
 ghost use Rattle.poly.specs.Faults.{most_codes};
 
 use crate::MOST_CODES;
@@ -35,16 +36,13 @@ impl<'a, F: Field> Divisor<'a, F> {
 }
 
 impl<R: Ring> Divisor<'_, R> {
-    // Divides the codes of a row: the row becomes that of the remainder, and the answer is that of the quotient, with zeros from the
-    // row's length on.
-    pub(crate) fn divide(&self, row: &mut [u16]) -> [u16; MOST_CODES]
+    // Divides the codes of a row: the row becomes that of the remainder, and a row of zeros as long as it becomes that of the quotient.
+    pub(crate) fn divide(&self, row: &mut [u16], quotient: &mut [u16])
         requires made { R.made self.now.ring.now }
         requires codes { (i : ℕ) → coefficient row.old i < (R.meaning self.now.ring.now).order }
-        requires short { length row.old ≤ most_codes }
-        ensures division { IsDivision (R.meaning self.now.ring.now) (or_zero (trimmed row.old)) self.now.codes.now (or_zero (trimmed result)) (or_zero (trimmed row.new)) }
-        ensures past { (k : ℕ) → length row.old ≤ k → slice_index result k ≡ 0 }
+        requires zeros { IsRow quotient.old (length row.old) (λ _. 0) }
+        ensures { IsDivision (R.meaning self.now.ring.now) (or_zero (trimmed row.old)) self.now.codes.now (or_zero (trimmed quotient.new)) (or_zero (trimmed row.new)) }
     {
-        let mut quotient = [0; MOST_CODES];
         let top = self.codes.len() - 1;
         // by index: each turn reads the row at one place and writes it at others
         for i in (top..row.len()).rev() {
@@ -54,7 +52,6 @@ impl<R: Ring> Divisor<'_, R> {
                 add_multiple(self.ring, self.ring.opposite(c), self.codes, i - top, row);
             }
         }
-        quotient
     }
 }
 
@@ -81,7 +78,7 @@ pub(crate) fn common_divisor<F: Field>(field: &F, f: &[u16], g: &[u16]) -> [u16;
     let mut dividend = padded(f);
     let mut divisor = padded(g);
     while let Some(d) = Divisor::new(field, polynomial_of(&divisor)) {
-        d.divide(&mut dividend);
+        d.divide(&mut dividend, &mut [0; MOST_CODES]);
         std::mem::swap(&mut dividend, &mut divisor);
     }
     make_monic(field, &mut dividend);

@@ -89,8 +89,11 @@ pub(crate) fn polynomial_of(row: &[u16]) -> &[u16]
     requires { 0 < length row.now }
     ensures { result.now ≡ or_zero (trimmed row.now) }
 {
-    let size = row.iter().rposition(|c| *c != 0).map_or(1, |i| i + 1);
-    &row[..size]
+    let mut codes = row;
+    while let [_, .., 0] = codes {
+        codes = &codes[..codes.len() - 1];
+    }
+    codes
 }
 
 // A row of f with zeros after it.

@@ -1,9 +1,9 @@
 -- The parts in memory and what they stand for: reading, writing, inserting and removing one.
--- Main statements: at_part, no_part, read_same, parts_length, all_held, each_meant, map_inserted, map_removed.
-use Rattle.std.proofs.Common.{◌≡◌, ℕ, zero, suc, ◌<◌, ◌≤◌, List, [], ◌∷◌, map, length, get_or, Some, None, vec_items, vec_len, Vec, sym, refl, ap, ◌∙◌, le_of_suc-le-suc, not-suc-le-zero}
+-- Main statements: at_part, no_part, read_same, parts_length, all_held, each_meant, all_at, all_inserted, all_removed, map_inserted, map_removed.
+use Rattle.std.proofs.Common.{◌≡◌, ℕ, zero, suc, ◌<◌, ◌≤◌, List, [], ◌∷◌, map, length, get_or, Some, None, vec_items, vec_len, Vec, sym, refl, ap, ◌∙◌, le_of_suc-le-suc, not-suc-le-zero, take, drop, subst}
 use Rattle.std.specs.declared.alloc.Global.{Global}
 use Rattle.std.specs.List.{All, insert, remove}
-use Rattle.std.proofs.lemmas.List.Elements.{All-nil, All-cons, All-head, All-tail}
+use Rattle.std.proofs.lemmas.List.Elements.{All-nil, All-cons, All-head, All-tail, All-get_or, All-append, All-take, All-drop}
 use Rattle.std.proofs.lemmas.List.{map-append, take-map, drop-map, length-map, get_or_default}
 use Rattle.worksheet.specs.declared.parts.Part.{Part}
 use Rattle.worksheet.specs.Sheet.{PartMeaning, part_at, Each}
@@ -39,6 +39,16 @@ all_held P Q h (x ∷ xs) a = All-cons Q x xs (h x a.0) (all_held P Q h xs a.1)
 pub each_meant : (P : PartMeaning → Type 0) (xs : List Part) → All (λ x. P (part_of x)) xs → Each P (map part_of xs)
 each_meant P [] a = tt
 each_meant P (x ∷ xs) a = (All-head (λ x. P (part_of x)) x xs a, each_meant P xs (All-tail (λ x. P (part_of x)) x xs a))
+
+module _ {X : Type 0} (P : X → Type 0) where
+  pub all_at : (xs : List X) (i : ℕ) (x : X) → i < length xs → x ≡ get_or xs i x → All P xs → P x
+  all_at xs i x h e a = subst P (sym e) (All-get_or P xs i x h a)
+
+  pub all_inserted : (xs : List X) (i : ℕ) (x : X) → All P xs → P x → All P (insert xs i x)
+  all_inserted xs i x a q = All-append P (take i xs) (x ∷ drop i xs) (All-take P i xs a) (All-cons P x (drop i xs) q (All-drop P i xs a))
+
+  pub all_removed : (xs : List X) (i : ℕ) → All P xs → All P (remove xs i)
+  all_removed xs i a = All-append P (take i xs) (drop (suc i) xs) (All-take P i xs a) (All-drop P (suc i) xs a)
 
 module _ {X Y : Type 0} (f : X → Y) where
   pub map_inserted : (xs : List X) (i : ℕ) (x : X) → map f (insert xs i x) ≡ insert (map f xs) i (f x)

@@ -8,7 +8,7 @@ ghost use Rattle.poly.specs.Faults.{most_codes};
 ghost use Rattle.worksheet.specs.Sheet.{place as placed_in};
 ghost use Rattle.worksheet.specs.Faults.{enter_refusal};
 ghost use Rattle.worksheet.specs.Calls.{Entered, monic_of};
-ghost use Rattle.worksheet.specs.Meaning.{part_of, sheet_of, SheetMade, over};
+ghost use Rattle.worksheet.specs.Meaning.{part_of, sheet_of, Sized, SheetMade, over};
 
 use crate::SheetFault;
 use crate::parts::{Part, Worksheet};
@@ -60,11 +60,13 @@ impl<F: Field> Worksheet<F> {
 // Places f, divided by its last code, once. A constant is not placed.
 fn place_monic<F: Field>(field: &F, f: &[u16], parts: &mut Vec<Part>)
     requires base { F.made field.now }
+    requires sized { All Sized parts.old.items }
     requires some { 0 < length f.now }
     requires short { length f.now ≤ most_codes }
     requires counts { All (λ p. p.times + 1 < 2 ^ 32) parts.old.items }
     requires room { 1 < length f.now → vec_len parts.old < vec_capacity parts.old }
     ensures placed { map part_of parts.new.items ≡ (if nat_eq (degree f.now) 0 then map part_of parts.old.items else placed_in (monic_of (field_of F.Field field.now) f.now) 1 (map part_of parts.old.items)) }
+    ensures sized { All Sized parts.new.items }
     ensures capacity { vec_capacity parts.new ≡ vec_capacity parts.old }
 {
     if f.len() > CODES_OF_CONSTANT {

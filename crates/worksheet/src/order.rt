@@ -5,7 +5,7 @@ ghost use Rattle.std.specs.Cmp.Lexicographic.{slice_cmp};
 ghost use Rattle.field.specs.Polynomial.{degree};
 ghost use Rattle.poly.specs.Faults.{most_codes};
 ghost use Rattle.worksheet.specs.Sheet.{before, new_part, is_open};
-ghost use Rattle.worksheet.specs.Meaning.{part_of};
+ghost use Rattle.worksheet.specs.Meaning.{part_of, Sized};
 
 use crate::parts::{Mark, Part};
 use poly::MOST_CODES;
@@ -25,7 +25,8 @@ impl Part {
     pub(crate) fn open(row: &[u16], times: u32) -> Part
         requires some { 0 < length row.now }
         requires short { length row.now ≤ most_codes }
-        ensures { part_of result ≡ new_part row.now times }
+        ensures value { part_of result ≡ new_part row.now times }
+        ensures sized { Sized result }
     {
         let mut codes = [0u16; MOST_CODES];
         codes[..row.len()].copy_from_slice(row);

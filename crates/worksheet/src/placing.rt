@@ -4,7 +4,7 @@ ghost use Rattle.std.specs.List.{All};
 ghost use Rattle.poly.specs.Faults.{most_codes};
 ghost use Rattle.worksheet.specs.Sheet.{place as placed_in};
 ghost use Rattle.worksheet.specs.Places.{place_of};
-ghost use Rattle.worksheet.specs.Meaning.{part_of};
+ghost use Rattle.worksheet.specs.Meaning.{part_of, Sized};
 
 use crate::order::stands_before;
 use crate::parts::Part;
@@ -22,11 +22,13 @@ pub(crate) fn position(parts: &[Part], codes: &[u16]) -> usize
 
 // Places these codes: a part that has them grows, else a new open part is inserted, for which there has to be room.
 pub(crate) fn place(parts: &mut Vec<Part>, codes: &[u16], times: u32)
+    requires sized { All Sized parts.old.items }
     requires some { 0 < length codes.now }
     requires short { length codes.now ≤ most_codes }
     requires counts { All (λ p. p.times + times < 2 ^ 32) parts.old.items }
     requires room { vec_len parts.old < vec_capacity parts.old }
     ensures placed { map part_of parts.new.items ≡ placed_in codes.now times (map part_of parts.old.items) }
+    ensures sized { All Sized parts.new.items }
     ensures capacity { vec_capacity parts.new ≡ vec_capacity parts.old }
 {
     let at = position(parts, codes);

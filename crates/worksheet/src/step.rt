@@ -6,7 +6,7 @@ ghost use Rattle.split.specs.Kinds.{numbered};
 ghost use Rattle.worksheet.specs.Sheet.{PartMeaning, most_degree, part_at, next_open, place as placed_in, settled as settled_part};
 ghost use Rattle.worksheet.specs.Places.{Chosen};
 ghost use Rattle.worksheet.specs.Calls.{Replaces, Stepped, told};
-ghost use Rattle.worksheet.specs.Meaning.{part_of, sheet_of, SheetMade, over};
+ghost use Rattle.worksheet.specs.Meaning.{part_of, sheet_of, Sized, SheetMade, over};
 
 use crate::SheetFault;
 use crate::parts::{Mark, Part, Worksheet};
@@ -47,6 +47,7 @@ impl<F: Field> Worksheet<F> {
         requires made { SheetMade F.Field self.old }
         requires chosen { Chosen (over F.Field self.old) (sheet_of self.old).parts number (numbered told) first.now second.now }
         ensures replaced { Replaces (over F.Field self.old) (sheet_of self.old) (numbered told) (sheet_of self.new) }
+        ensures sized { All Sized self.new.parts.items }
         ensures capacity { vec_capacity self.new.parts ≡ vec_capacity self.old.parts }
         ensures same { self.new.field ≡ self.old.field }
     {
@@ -73,8 +74,10 @@ fn first_open(parts: &[Part]) -> Option<usize>
 
 // Settles the part at this place.
 fn settle_at(parts: &mut Vec<Part>, number: usize)
-    requires { number < vec_len parts.old }
+    requires sized { All Sized parts.old.items }
+    requires within { number < vec_len parts.old }
     ensures settled { (q : PartMeaning) → part_at (map part_of parts.old.items) number ≡ Some q → map part_of parts.new.items ≡ slice_set (map part_of parts.old.items) number (settled_part q) }
+    ensures sized { All Sized parts.new.items }
     ensures capacity { vec_capacity parts.new ≡ vec_capacity parts.old }
 {
     parts[number].mark = Mark::Settled;
@@ -82,12 +85,14 @@ fn settle_at(parts: &mut Vec<Part>, number: usize)
 
 // Puts a root, with p times the multiplicity, in the place of the part here.
 fn put_root(parts: &mut Vec<Part>, number: usize, p: u32, row: &[u16])
+    requires sized { All Sized parts.old.items }
     requires within { number < vec_len parts.old }
     requires some { 0 < length row.now }
     requires short { length row.now ≤ most_codes }
     requires counts { All (λ x. x.times ≤ most_degree) parts.old.items }
     requires count { (q : PartMeaning) → part_at (map part_of parts.old.items) number ≡ Some q → q.times * p ≤ most_degree }
     ensures placed { (q : PartMeaning) → part_at (map part_of parts.old.items) number ≡ Some q → map part_of parts.new.items ≡ placed_in row.now (q.times * p) (remove (map part_of parts.old.items) number) }
+    ensures sized { All Sized parts.new.items }
     ensures capacity { vec_capacity parts.new ≡ vec_capacity parts.old }
 {
     let part = parts.remove(number);
@@ -96,6 +101,7 @@ fn put_root(parts: &mut Vec<Part>, number: usize, p: u32, row: &[u16])
 
 // Puts two polynomials, with its multiplicity, in the place of the part here, for which there has to be room.
 fn put_pieces(parts: &mut Vec<Part>, number: usize, g: &[u16], h: &[u16])
+    requires sized { All Sized parts.old.items }
     requires within { number < vec_len parts.old }
     requires some_left { 0 < length g.now }
     requires short_left { length g.now ≤ most_codes }
@@ -104,6 +110,7 @@ fn put_pieces(parts: &mut Vec<Part>, number: usize, g: &[u16], h: &[u16])
     requires counts { All (λ x. x.times ≤ most_degree) parts.old.items }
     requires room { vec_len parts.old < vec_capacity parts.old }
     ensures placed { (q : PartMeaning) → part_at (map part_of parts.old.items) number ≡ Some q → map part_of parts.new.items ≡ placed_in h.now q.times (placed_in g.now q.times (remove (map part_of parts.old.items) number)) }
+    ensures sized { All Sized parts.new.items }
     ensures capacity { vec_capacity parts.new ≡ vec_capacity parts.old }
 {
     let part = parts.remove(number);

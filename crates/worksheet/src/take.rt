@@ -1,9 +1,10 @@
 // Taking and reading parts.
 ghost use Rattle.std.specs.Prelude.{◌≡◌, ◌<◌, map, vec_len, vec_capacity, OnErr};
+ghost use Rattle.std.specs.List.{All};
 ghost use Rattle.worksheet.specs.Sheet.{part_at, taken_at};
 ghost use Rattle.worksheet.specs.Places.{some_open};
 ghost use Rattle.worksheet.specs.Calls.{Read, Taken};
-ghost use Rattle.worksheet.specs.Meaning.{part_of, sheet_of, SheetMade};
+ghost use Rattle.worksheet.specs.Meaning.{part_of, sheet_of, Sized, SheetMade};
 
 use crate::SheetFault;
 use crate::parts::{Mark, Part, Worksheet};
@@ -50,8 +51,10 @@ fn open_at(parts: &[Part], number: usize) -> bool
 
 // Takes one of the part at this place: the last of it takes the part away.
 fn take_one(parts: &mut Vec<Part>, number: usize)
-    requires { number < vec_len parts.old }
+    requires sized { All Sized parts.old.items }
+    requires within { number < vec_len parts.old }
     ensures lowered { map part_of parts.new.items ≡ taken_at (map part_of parts.old.items) number }
+    ensures sized { All Sized parts.new.items }
     ensures capacity { vec_capacity parts.new ≡ vec_capacity parts.old }
 {
     if parts[number].times > 1 {

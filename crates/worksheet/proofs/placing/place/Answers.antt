@@ -1,18 +1,19 @@
-use Rattle.std.proofs.Common.{◌≡◌, ◌<◌, ◌≤◌, true, List, map, length, set, is_ok, Some, vec_items, vec_len, vec_capacity, sym, ap, ◌∙◌, arith, rules}
+use Rattle.std.proofs.Common.{◌≡◌, ◌<◌, ◌≤◌, true, List, map, length, set, is_ok, Some, vec_items, vec_len, vec_capacity, sym, ap, ◌∙◌, subst, arith, rules}
 use Rattle.std.proofs.lemmas.Option.{same_Some}
 use borrow.Author.Tests.{both_ways}
-use Rattle.std.specs.List.{insert}
+use Rattle.std.specs.List.{All, insert}
 use Rattle.std.proofs.lemmas.Bool.{cond-true}
 use Rattle.std.proofs.lemmas.Bool.Decides.{Decides-eqb}
 use Rattle.std.proofs.lemmas.Grind.{common_steps}
 use Rattle.std.proofs.lemmas.List.{map-set}
+use Rattle.std.proofs.lemmas.List.Elements.{All-set}
 use Rattle.std.proofs.lemmas.Slice.Eq.{slice_eq-Decides}
 use Rattle.field.specs.Ranges.{some_none}
 use Rattle.worksheet.specs.declared.parts.Part.{Part}
 use Rattle.worksheet.specs.Sheet.{PartMeaning, new_part, grown, part_at}
 use Rattle.worksheet.specs.Places.{place_of}
-use Rattle.worksheet.specs.Meaning.{part_of}
-use Rattle.worksheet.proofs.PartsHeld.{at_part, no_part, map_inserted, parts_length}
+use Rattle.worksheet.specs.Meaning.{part_of, Sized}
+use Rattle.worksheet.proofs.PartsHeld.{at_part, no_part, all_at, all_inserted, map_inserted, parts_length}
 use Rattle.worksheet.proofs.PlaceOf.{place_within, place_grows, place_inserts}
 use Rattle.worksheet.proofs.placing.place.Goals as goal
 use Rattle.worksheet.proofs.placing.place.Goals.{in_default-via-in-Some+else-eq, in_default-via-in-None-1}
@@ -40,8 +41,14 @@ returns-in-Some-clause-placed c =
     let same = sym c.codes.ensures.value ∙ (slice_eq-Decides Decides-eqb _ _ _ c.eq.ensures).0 c.if-eq.true in
     map-set part_of xs c.position-at.result _ ∙ ap (λ k. set ps k (grown n (part_of p))) at ∙ sym (place_grows f n ps (part_of p) here same)
 
-pub returns-in_default-clause-placed : goal.returns-in_default-clause-placed
-returns-in_default-clause-placed c =
+pub returns-in-Some-clause-sized : goal.returns-in-Some-clause-sized
+returns-in-Some-clause-sized c =
+    let xs : List Part = vec_items c.args.parts.now in
+    let s : Sized c.in-Some.part.now = all_at Sized xs c.position-at.result c.in-Some.part.now c.in-Some.ensures.item.3.0 c.in-Some.ensures.value c.requires.sized in
+    All-set Sized xs c.position-at.result _ (record { some_code = s.some_code; fits = s.fits; array = s.array }) c.requires.sized
+
+pub returns-in_default : goal.returns-in_default
+returns-in_default c =
     let xs : List Part = vec_items c.args.parts.now in
     let ys : List Part = vec_items c.in_default.parts in
     let ps : List PartMeaning = map part_of xs in
@@ -66,5 +73,13 @@ returns-in_default-clause-placed c =
     ] in
     let ok : is_ok c.insert.result ≡ true = c.insert.ensures.succeeds room in
     let items = c.insert.ensures.items ∙ cond-true (is_ok c.insert.result) (insert ys i c.open.result) ys ok ∙ ap (λ (zs : List Part). insert zs i c.open.result) kept in
-    ap (map part_of) items ∙ map_inserted part_of xs i c.open.result ∙ ap (insert ps i) c.open.ensures
-    ∙ ap (λ k. insert ps k (new_part f n)) at ∙ sym (place_inserts f n ps (λ p h. apart p (ap (part_at ps) at ∙ h)))
+    record {
+      placed =
+          ap (map part_of) items ∙ map_inserted part_of xs i c.open.result ∙ ap (insert ps i) c.open.ensures.value
+          ∙ ap (λ k. insert ps k (new_part f n)) at ∙ sym (place_inserts f n ps (λ p h. apart p (ap (part_at ps) at ∙ h)));
+      sized = subst (All Sized) (sym items) (all_inserted Sized xs i c.open.result c.requires.sized c.open.ensures.sized);
+      capacity = elim c.in_default.branch [
+        | in_default-via-in-Some+else-eq w ↦ grind (arith, common_steps, ap vec_capacity w.parts-is, c.insert.ensures, ok, room)
+        | in_default-via-in-None-1 w ↦ grind (arith, common_steps, ap vec_capacity w.parts-is, c.insert.ensures, ok, room)
+      ];
+    }

@@ -4,9 +4,9 @@ use Rattle.std.specs.List.{All}
 use Rattle.std.proofs.lemmas.Grind.{elements}
 use Rattle.worksheet.specs.declared.parts.Part.{Part}
 use Rattle.worksheet.specs.Sheet.{PartMeaning, Each, place}
-use Rattle.worksheet.specs.Meaning.{part_of}
+use Rattle.worksheet.specs.Meaning.{part_of, Sized}
 use Rattle.worksheet.proofs.PartLists.{place_turns}
-use Rattle.worksheet.proofs.PartsHeld.{at_part, all_held, each_meant, map_removed, parts_length}
+use Rattle.worksheet.proofs.PartsHeld.{at_part, all_held, all_removed, each_meant, map_removed, parts_length}
 use Rattle.worksheet.proofs.Replacing.{place_longer}
 use Rattle.worksheet.proofs.step.put_pieces.Goals as goal
 
@@ -36,3 +36,6 @@ returns-clause-placed c =
     c.place-2.ensures.placed ∙ ap (place c.args.h.now part.times) c.place.ensures.placed
     ∙ ap₂ (λ (n : ℕ) (qs : List PartMeaning). place c.args.h.now n (place c.args.g.now n qs)) (ap (λ (x : PartMeaning). x.times) (same_Some (part_of part) q (sym at ∙ here)))
     (ap (map part_of) c.remove-part.ensures.items ∙ map_removed part_of xs i)
+
+pub place-requires-clause-sized : goal.place-requires-clause-sized
+place-requires-clause-sized c = subst (All Sized) (sym c.remove-part.ensures.items) (all_removed Sized (vec_items c.args.parts.now) c.args.number c.requires.sized)

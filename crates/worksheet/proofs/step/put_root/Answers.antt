@@ -1,10 +1,11 @@
-use Rattle.std.proofs.Common.{ℕ, ◌*◌, List, map, vec_items, sym, ap, ◌∙◌, ap₂, arith}
+use Rattle.std.proofs.Common.{ℕ, ◌*◌, List, map, vec_items, sym, ap, ◌∙◌, subst, ap₂, arith}
 use Rattle.std.proofs.lemmas.Option.{same_Some}
+use Rattle.std.specs.List.{All}
 use Rattle.std.proofs.lemmas.Grind.{elements}
 use Rattle.worksheet.specs.declared.parts.Part.{Part}
 use Rattle.worksheet.specs.Sheet.{PartMeaning, place}
-use Rattle.worksheet.specs.Meaning.{part_of}
-use Rattle.worksheet.proofs.PartsHeld.{at_part, map_removed}
+use Rattle.worksheet.specs.Meaning.{part_of, Sized}
+use Rattle.worksheet.proofs.PartsHeld.{at_part, all_removed, map_removed}
 use Rattle.worksheet.proofs.step.put_root.Goals as goal
 
 pub overflow_mul-part : goal.overflow_mul-part
@@ -30,3 +31,6 @@ returns-clause-placed c =
     c.place.ensures.placed
     ∙ ap₂ (λ (n : ℕ) (qs : List PartMeaning). place c.args.row.now n qs) (ap (λ (x : PartMeaning). x.times * c.args.p) (same_Some (part_of part) q (sym at ∙ here)))
     (ap (map part_of) c.remove-part.ensures.items ∙ map_removed part_of xs i)
+
+pub place-requires-clause-sized : goal.place-requires-clause-sized
+place-requires-clause-sized c = subst (All Sized) (sym c.remove-part.ensures.items) (all_removed Sized (vec_items c.args.parts.now) c.args.number c.requires.sized)

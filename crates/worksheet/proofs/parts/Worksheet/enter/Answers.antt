@@ -21,6 +21,7 @@ place_monic-requires g c =
     let polynomial = taken_is_canonical m f taken.0 in
     record {
       base = c.requires.base;
+      sized = c.requires.sized;
       some = polynomial.0.some_code;
       short = polynomial.1;
       counts = all_held (SmallPart m 127) (λ (x : Part). x.times + 1 < 2 ^ 32) (λ x h. omega (arith, h.times)) (vec_items w.parts) (small_parts m (sheet_of w) c.requires.good);
@@ -42,6 +43,7 @@ returns g c =
         base = c.requires.base;
         laws = c.requires.laws;
         good = call_good F c.requires.laws (enter f (Ok (length f - 1))) (sheet_of w) _ c.requires.good entered;
+        sized = c.place_monic.ensures.sized;
         room = omega (arith, c.place_monic.ensures.capacity, c.requires.room);
       };
       same = refl;

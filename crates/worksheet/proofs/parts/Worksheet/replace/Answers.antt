@@ -1,9 +1,6 @@
-use Rattle.std.proofs.Common.{◌≡◌, ◌⊎◌, inl, inr, ℕ, ◌*◌, ◌≤◌, List, length, sym, refl, ap, ◌∙◌, subst, ap₂, arith}
+use Rattle.std.proofs.Common.{ℕ, ◌*◌, ◌≤◌, List, length, sym, refl, ap, ◌∙◌, subst, ap₂, arith, rules}
 use Rattle.std.proofs.lemmas.Option.{same_Some}
 use Rattle.std.specs.List.{remove}
-use Rattle.split.specs.declared.kind.Kind.{Kind}
-use Rattle.split.specs.declared.kind.Kind.TheVariants.{Root, Repeated, Shifted, Whole}
-use Rattle.split.specs.Kinds.{kind_number}
 use Rattle.split.specs.Splitting.{root, whole}
 use Rattle.worksheet.specs.Sheet.{PartMeaning, place}
 use Rattle.worksheet.specs.Meaning.{sheet_of}
@@ -12,33 +9,19 @@ use Rattle.worksheet.proofs.Replacing.{without_at, settle_at}
 use Rattle.worksheet.proofs.Pieces.{begins_row, the_root, the_pair, the_whole, chosen_within, few_times}
 use Rattle.worksheet.proofs.parts.Worksheet.replace.Goals as goal
 
--- what the number of a kind tells, for each arm
-is_root : {kind : Kind} → kind ≡ Root → kind_number kind ≡ 1
-is_root = ap kind_number
-
-is_whole : {kind : Kind} → kind ≡ Whole → kind_number kind ≡ 4
-is_whole = ap kind_number
-
-not_root : {kind : Kind} → kind ≡ Repeated ⊎ kind ≡ Shifted → kind_number kind ≡ 1 → ⊥
-not_root (inl e) n = omega (arith, ap kind_number e, n)
-not_root (inr e) n = omega (arith, ap kind_number e, n)
-
-not_whole : {kind : Kind} → kind ≡ Repeated ⊎ kind ≡ Shifted → kind_number kind ≡ 4 → ⊥
-not_whole (inl e) n = omega (arith, ap kind_number e, n)
-not_whole (inr e) n = omega (arith, ap kind_number e, n)
-
 pub overflow_add-d : goal.overflow_add-d
-overflow_add-d g c = omega (arith, (the_root c.requires.made c.requires.chosen (is_root c.in-Root.is)).begins.short)
+overflow_add-d g c = omega (arith, (the_root c.requires.made c.requires.chosen (search (rules, c.in-Root.is))).begins.short)
 
 pub slice_bounds-put_root-end : goal.slice_bounds-put_root-end
-slice_bounds-put_root-end g c = omega (arith, (the_root c.requires.made c.requires.chosen (is_root c.in-Root.is)).begins.fits)
+slice_bounds-put_root-end g c = omega (arith, (the_root c.requires.made c.requires.chosen (search (rules, c.in-Root.is))).begins.fits)
 
 pub put_root-requires : goal.put_root-requires
 put_root-requires g c =
     let chosen = c.requires.chosen in
-    let it = the_root c.requires.made chosen (is_root c.in-Root.is) in
+    let it = the_root c.requires.made chosen (search (rules, c.in-Root.is)) in
     let long = ap length (begins_row it.begins) in
     record {
+      sized = c.requires.made.sized;
       within = chosen_within c.requires.made chosen;
       some = omega (arith, long, it.begins.long, it.begins.some);
       short = omega (arith, long, it.begins.long, it.begins.short);
@@ -49,26 +32,27 @@ put_root-requires g c =
     }
 
 pub settle_at-requires : goal.settle_at-requires
-settle_at-requires g c = chosen_within c.requires.made c.requires.chosen
+settle_at-requires g c = record { sized = c.requires.made.sized; within = chosen_within c.requires.made c.requires.chosen }
 
 pub overflow_add-d-in-Repeated : goal.overflow_add-d-in-Repeated
-overflow_add-d-in-Repeated g c = omega (arith, (the_pair c.requires.made c.requires.chosen (not_root c.in-Repeated.is) (not_whole c.in-Repeated.is)).left_begins.short)
+overflow_add-d-in-Repeated g c = omega (arith, (the_pair c.requires.made c.requires.chosen (λ n. search (rules, c.in-Repeated.is, n)) (λ n. search (rules, c.in-Repeated.is, n))).left_begins.short)
 
 pub slice_bounds-put_pieces-end : goal.slice_bounds-put_pieces-end
-slice_bounds-put_pieces-end g c = omega (arith, (the_pair c.requires.made c.requires.chosen (not_root c.in-Repeated.is) (not_whole c.in-Repeated.is)).left_begins.fits)
+slice_bounds-put_pieces-end g c = omega (arith, (the_pair c.requires.made c.requires.chosen (λ n. search (rules, c.in-Repeated.is, n)) (λ n. search (rules, c.in-Repeated.is, n))).left_begins.fits)
 
 pub overflow_add-e : goal.overflow_add-e
-overflow_add-e g c = omega (arith, (the_pair c.requires.made c.requires.chosen (not_root c.in-Repeated.is) (not_whole c.in-Repeated.is)).right_begins.short)
+overflow_add-e g c = omega (arith, (the_pair c.requires.made c.requires.chosen (λ n. search (rules, c.in-Repeated.is, n)) (λ n. search (rules, c.in-Repeated.is, n))).right_begins.short)
 
 pub slice_bounds-put_pieces-end-in-Repeated : goal.slice_bounds-put_pieces-end-in-Repeated
-slice_bounds-put_pieces-end-in-Repeated g c = omega (arith, (the_pair c.requires.made c.requires.chosen (not_root c.in-Repeated.is) (not_whole c.in-Repeated.is)).right_begins.fits)
+slice_bounds-put_pieces-end-in-Repeated g c = omega (arith, (the_pair c.requires.made c.requires.chosen (λ n. search (rules, c.in-Repeated.is, n)) (λ n. search (rules, c.in-Repeated.is, n))).right_begins.fits)
 
 pub put_pieces-requires : goal.put_pieces-requires
 put_pieces-requires g c =
-    let it = the_pair c.requires.made c.requires.chosen (not_root c.in-Repeated.is) (not_whole c.in-Repeated.is) in
+    let it = the_pair c.requires.made c.requires.chosen (λ n. search (rules, c.in-Repeated.is, n)) (λ n. search (rules, c.in-Repeated.is, n)) in
     let left = ap length (begins_row it.left_begins) in
     let right = ap length (begins_row it.right_begins) in
     record {
+      sized = c.requires.made.sized;
       within = chosen_within c.requires.made c.requires.chosen;
       some_left = omega (arith, left, it.left_begins.long, it.left_begins.some);
       short_left = omega (arith, left, it.left_begins.long, it.left_begins.short);
@@ -84,7 +68,7 @@ returns-in-Root g c =
     let i = c.args.number in
     let chosen = c.requires.chosen in
     let p : PartMeaning = chosen.part in
-    let it = the_root c.requires.made chosen (is_root c.in-Root.is) in
+    let it = the_root c.requires.made chosen (search (rules, c.in-Root.is)) in
     record {
       replaced = record {
         part = p;
@@ -98,6 +82,7 @@ returns-in-Root g c =
             ∙ ap₂ (λ (f : List ℕ) (n : ℕ). place f n (remove ps i)) (begins_row it.begins) (ap (λ (n : ℕ). p.times * n) c.characteristic-p.ensures.value)
             ∙ ap (place it.piece _) (sym (without_at ps i p chosen.here c.requires.made.good.ordered));
       };
+      sized = c.put_root.ensures.sized;
       capacity = c.put_root.ensures.capacity;
       same = refl;
     }
@@ -106,7 +91,7 @@ pub returns-in-Whole : goal.returns-in-Whole
 returns-in-Whole g c =
     let chosen = c.requires.chosen in
     let p : PartMeaning = chosen.part in
-    let it = the_whole c.requires.made chosen (is_whole c.in-Whole.is) in
+    let it = the_whole c.requires.made chosen (search (rules, c.in-Whole.is)) in
     record {
       replaced = record {
         part = p;
@@ -117,6 +102,7 @@ returns-in-Whole g c =
         unit = refl;
         parts = c.settle_at.ensures.settled p chosen.here ∙ sym (settle_at (sheet_of c.args.self.now).parts c.args.number p chosen.here c.requires.made.good.ordered);
       };
+      sized = c.settle_at.ensures.sized;
       capacity = c.settle_at.ensures.capacity;
       same = refl;
     }
@@ -127,7 +113,7 @@ returns-in-Repeated g c =
     let i = c.args.number in
     let chosen = c.requires.chosen in
     let p : PartMeaning = chosen.part in
-    let it = the_pair c.requires.made chosen (not_root c.in-Repeated.is) (not_whole c.in-Repeated.is) in
+    let it = the_pair c.requires.made chosen (λ n. search (rules, c.in-Repeated.is, n)) (λ n. search (rules, c.in-Repeated.is, n)) in
     record {
       replaced = record {
         part = p;
@@ -142,6 +128,7 @@ returns-in-Repeated g c =
             ∙ ap (λ (qs : List PartMeaning). place it.right p.times (place it.left p.times qs)) (sym (without_at ps i p chosen.here c.requires.made.good.ordered))
             ∙ sym (it.replaces ps);
       };
+      sized = c.put_pieces.ensures.sized;
       capacity = c.put_pieces.ensures.capacity;
       same = refl;
     }

@@ -82,6 +82,7 @@ returns g c =
         base = subst (λ (x : g.row.F.Denot). g.F.Ring.made x) (sym same) c.requires.base;
         laws = subst (λ (x : g.row.F.Denot). FieldLaws (means (g.F.Ring.meaning x) (g.F.Field.extras x))) (sym same) c.requires.laws;
         good = subst (λ (x : g.row.F.Denot). GoodSheet (g.F.Ring.meaning x) (sheet_of last)) (sym same) (call_good F c.requires.laws (step scratch (Ok (numbered c.in-Some-split.told)) after) (sheet_of w) (sheet_of last) c.requires.good stepped);
+        sized = c.replace.ensures.sized;
         room = omega (arith, c.replace.ensures.capacity, c.requires.room);
       };
       same = same;

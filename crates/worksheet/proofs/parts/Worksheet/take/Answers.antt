@@ -20,7 +20,7 @@ take_one-requires g c =
       | inl h ↦ h
       | inr h ↦ absurd (read_some (sheet_of w) i c.args.out.now c.in_ok-degree.ensures.0 (no_part (vec_items w.parts) i (omega (arith, w.parts.ok.0))))
     ] in
-    within
+    record { sized = c.requires.sized; within = within }
 
 pub returns-in_err-degree : goal.returns-in_err-degree
 returns-in_err-degree g c =
@@ -49,6 +49,7 @@ returns g c =
         base = c.requires.base;
         laws = c.requires.laws;
         good = call_good F c.requires.laws (take i out (Ok c.in_ok-degree.degree) after) (sheet_of w) _ c.requires.good taken;
+        sized = c.take_one.ensures.sized;
         room = omega (arith, c.take_one.ensures.capacity, c.requires.room);
       };
       same = refl;
