@@ -1,11 +1,12 @@
 -- What is counted and sought over the parts in memory, in the library's words for lists.
--- Main statements: total_is, opens_is, first_is, place_is, got, got_and.
+-- Main statements: total_is, opens_is, opens_few, first_is, place_is, got, got_and.
 use Rattle.std.proofs.Common.{◌≡◌, ℕ, suc, ◌+◌, ◌*◌, ◌<◌, ◌≤◌, Bool, true, false, not, cond, ltb, List, [], ◌∷◌, map, length, get_or, Some, None, Option, sym, refl, ap, ◌∙◌, inl, inr, ◌⊎◌, arith, Bor}
 use borrow.Author.Tests.{ltb-true, ltb-false}
-use Rattle.std.specs.List.{sum_by, filter, position_or_len}
+use Rattle.std.specs.List.{sum_by, position_or_len}
 use Rattle.std.specs.Option.{MatchOption, IfSome, is_some, option_map, unwrap_or}
 use Rattle.std.proofs.lemmas.List.Recursion.{is_sum_by, is_position_or_len}
-use Rattle.std.proofs.lemmas.List.Sums.{length-filter, prefix_len-le-length}
+use Rattle.std.proofs.lemmas.List.Sums.{prefix_len-le-length}
+use Rattle.std.proofs.lemmas.List.{length-map}
 use Rattle.std.proofs.lemmas.Bool.{cases_lt, lt-ltb, le-ltb}
 use Rattle.field.specs.Polynomial.{degree}
 use Rattle.worksheet.specs.declared.parts.Part.{Part}
@@ -25,9 +26,26 @@ total_is = is_sum_by (λ xs. total_degree (map part_of xs)) weighed refl (λ _ _
 abbrev pub opened : Part → Bool
 opened x = is_open x.mark
 
-pub opens_is : (xs : List Part) → open_count (map part_of xs) ≡ length (filter opened xs)
+-- one for an open part
+abbrev pub opened_one : Part → ℕ
+opened_one x = cond (opened x) 1 0
+
+pub opens_is : (xs : List Part) → open_count (map part_of xs) ≡ sum_by opened_one xs
 unfolding open_count
-opens_is xs = is_sum_by (λ xs. open_count (map part_of xs)) (λ x. cond (opened x) 1 0) refl (λ _ _. refl) xs ∙ sym (length-filter opened xs)
+opens_is = is_sum_by (λ xs. open_count (map part_of xs)) opened_one refl (λ _ _. refl)
+
+one_most : (b : Bool) → cond b 1 0 ≤ 1
+one_most true = omega arith
+one_most false = omega arith
+
+-- there are no more open parts than parts
+few : (ps : List PartMeaning) → open_count ps ≤ length ps
+unfolding open_count
+few [] = omega arith
+few (p ∷ ps) = omega (arith, one_most (is_open p.mark), few ps)
+
+pub opens_few : (xs : List Part) → sum_by opened_one xs ≤ length xs
+opens_few xs = omega (arith, opens_is xs, few (map part_of xs), length-map xs part_of)
 
 next_at : (xs : List Part) → part_at (map part_of xs) (position_or_len opened xs) ≡ next_open (map part_of xs)
 unfolding part_at next_open

