@@ -1,13 +1,13 @@
 -- The parts in memory and what they stand for: reading, writing, inserting and removing one.
--- Main statements: at_part, no_part, read_same, parts_length, all_held, each_meant, all_at, all_inserted, all_removed, map_inserted, map_removed.
-use Rattle.std.proofs.Common.{◌≡◌, ℕ, zero, suc, ◌<◌, ◌≤◌, List, [], ◌∷◌, map, length, get_or, Some, None, vec_items, vec_len, Vec, sym, refl, ap, ◌∙◌, le_of_suc-le-suc, not-suc-le-zero, take, drop, subst}
+-- Main statements: at_part, no_part, read_same, parts_length, all_held, each_meant, all_inserted, all_removed, sized_set, map_inserted, map_removed.
+use Rattle.std.proofs.Common.{◌≡◌, ℕ, zero, suc, ◌<◌, ◌≤◌, List, [], ◌∷◌, map, length, get_or, Some, None, vec_items, vec_len, Vec, sym, refl, ap, ◌∙◌, le_of_suc-le-suc, not-suc-le-zero, take, drop, set, subst, arith}
 use Rattle.std.specs.declared.alloc.Global.{Global}
 use Rattle.std.specs.List.{All, insert, remove}
-use Rattle.std.proofs.lemmas.List.Elements.{All-nil, All-cons, All-head, All-tail, All-get_or, All-append, All-take, All-drop}
+use Rattle.std.proofs.lemmas.List.Elements.{All-nil, All-cons, All-head, All-tail, All-get_or, All-set, All-append, All-take, All-drop}
 use Rattle.std.proofs.lemmas.List.{map-append, take-map, drop-map, length-map, get_or_default}
 use Rattle.worksheet.specs.declared.parts.Part.{Part}
 use Rattle.worksheet.specs.Sheet.{PartMeaning, part_at, Each}
-use Rattle.worksheet.specs.Meaning.{part_of}
+use Rattle.worksheet.specs.Meaning.{part_of, Sized}
 
 -- the part at a place that was read
 pub at_part : (xs : List Part) (i : ℕ) (p : Part) → i < length xs → p ≡ get_or xs i p → part_at (map part_of xs) i ≡ Some (part_of p)
@@ -41,7 +41,7 @@ each_meant P [] a = tt
 each_meant P (x ∷ xs) a = (All-head (λ x. P (part_of x)) x xs a, each_meant P xs (All-tail (λ x. P (part_of x)) x xs a))
 
 module _ {X : Type 0} (P : X → Type 0) where
-  pub all_at : (xs : List X) (i : ℕ) (x : X) → i < length xs → x ≡ get_or xs i x → All P xs → P x
+  all_at : (xs : List X) (i : ℕ) (x : X) → i < length xs → x ≡ get_or xs i x → All P xs → P x
   all_at xs i x h e a = subst P (sym e) (All-get_or P xs i x h a)
 
   pub all_inserted : (xs : List X) (i : ℕ) (x : X) → All P xs → P x → All P (insert xs i x)
@@ -49,6 +49,12 @@ module _ {X : Type 0} (P : X → Type 0) where
 
   pub all_removed : (xs : List X) (i : ℕ) → All P xs → All P (remove xs i)
   all_removed xs i a = All-append P (take i xs) (drop (suc i) xs) (All-take P i xs a) (All-drop P (suc i) xs a)
+
+-- a part is written again, with its codes
+pub sized_set : (xs : List Part) (i : ℕ) (p q : Part) → i < length xs → p ≡ get_or xs i p → q.codes ≡ p.codes → q.len ≡ p.len → All Sized xs → All Sized (set xs i q)
+sized_set xs i p q h e codes len a =
+    let s : Sized p = all_at Sized xs i p h e a in
+    All-set Sized xs i q (record { some_code = omega (arith, len, s.some_code); fits = omega (arith, len, s.fits); array = ap length codes ∙ s.array }) a
 
 module _ {X Y : Type 0} (f : X → Y) where
   pub map_inserted : (xs : List X) (i : ℕ) (x : X) → map f (insert xs i x) ≡ insert (map f xs) i (f x)

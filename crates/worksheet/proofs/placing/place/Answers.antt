@@ -1,4 +1,4 @@
-use Rattle.std.proofs.Common.{◌≡◌, ◌<◌, ◌≤◌, true, List, map, length, set, is_ok, Some, vec_items, vec_len, vec_capacity, sym, ap, ◌∙◌, subst, arith, rules}
+use Rattle.std.proofs.Common.{◌≡◌, ◌<◌, ◌≤◌, true, List, map, length, set, is_ok, Some, vec_items, vec_len, vec_capacity, sym, refl, ap, ◌∙◌, subst, arith, rules}
 use Rattle.std.proofs.lemmas.Option.{same_Some}
 use borrow.Author.Tests.{both_ways}
 use Rattle.std.specs.List.{All, insert}
@@ -6,14 +6,13 @@ use Rattle.std.proofs.lemmas.Bool.{cond-true}
 use Rattle.std.proofs.lemmas.Bool.Decides.{Decides-eqb}
 use Rattle.std.proofs.lemmas.Grind.{common_steps}
 use Rattle.std.proofs.lemmas.List.{map-set}
-use Rattle.std.proofs.lemmas.List.Elements.{All-set}
 use Rattle.std.proofs.lemmas.Slice.Eq.{slice_eq-Decides}
 use Rattle.field.specs.Ranges.{some_none}
 use Rattle.worksheet.specs.declared.parts.Part.{Part}
 use Rattle.worksheet.specs.Sheet.{PartMeaning, new_part, grown, part_at}
 use Rattle.worksheet.specs.Places.{place_of}
 use Rattle.worksheet.specs.Meaning.{part_of, Sized}
-use Rattle.worksheet.proofs.PartsHeld.{at_part, no_part, all_at, all_inserted, map_inserted, parts_length}
+use Rattle.worksheet.proofs.PartsHeld.{at_part, no_part, all_inserted, sized_set, map_inserted, parts_length}
 use Rattle.worksheet.proofs.PlaceOf.{place_within, place_grows, place_inserts}
 use Rattle.worksheet.proofs.placing.place.Goals as goal
 use Rattle.worksheet.proofs.placing.place.Goals.{in_default-via-in-Some+else-eq, in_default-via-in-None-1}
@@ -44,8 +43,7 @@ returns-in-Some-clause-placed c =
 pub returns-in-Some-clause-sized : goal.returns-in-Some-clause-sized
 returns-in-Some-clause-sized c =
     let xs : List Part = vec_items c.args.parts.now in
-    let s : Sized c.in-Some.part.now = all_at Sized xs c.position-at.result c.in-Some.part.now c.in-Some.ensures.item.3.0 c.in-Some.ensures.value c.requires.sized in
-    All-set Sized xs c.position-at.result _ (record { some_code = s.some_code; fits = s.fits; array = s.array }) c.requires.sized
+    sized_set xs c.position-at.result c.in-Some.part.now _ c.in-Some.ensures.item.3.0 c.in-Some.ensures.value refl refl c.requires.sized
 
 pub returns-in_default : goal.returns-in_default
 returns-in_default c =

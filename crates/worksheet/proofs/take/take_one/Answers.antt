@@ -1,12 +1,11 @@
-use Rattle.std.proofs.Common.{◌<◌, List, map, length, set, vec_items, sym, ap, subst, ◌∙◌, arith, le-leb}
+use Rattle.std.proofs.Common.{◌<◌, List, map, length, set, vec_items, sym, refl, ap, subst, ◌∙◌, arith, le-leb}
 use borrow.Author.Tests.{lt-leb}
 use Rattle.std.specs.List.{All}
 use Rattle.std.proofs.lemmas.List.{map-set}
-use Rattle.std.proofs.lemmas.List.Elements.{All-set}
 use Rattle.worksheet.specs.declared.parts.Part.{Part}
 use Rattle.worksheet.specs.Sheet.{PartMeaning}
 use Rattle.worksheet.specs.Meaning.{part_of, Sized}
-use Rattle.worksheet.proofs.PartsHeld.{at_part, read_same, all_at, all_removed, map_removed}
+use Rattle.worksheet.proofs.PartsHeld.{at_part, read_same, all_removed, sized_set, map_removed}
 use Rattle.worksheet.proofs.TakenAt.{lowered, lowered_at, removed_at}
 use Rattle.worksheet.proofs.take.take_one.Goals as goal
 
@@ -36,9 +35,7 @@ returns-else-index-gt1-clause-lowered c =
 pub returns-then-index-gt1-clause-sized : goal.returns-then-index-gt1-clause-sized
 returns-then-index-gt1-clause-sized c =
     let xs : List Part = vec_items c.args.parts.now in
-    let i = c.args.number in
-    let s : Sized c.index_mut.result.now = all_at Sized xs i c.index_mut.result.now (omega (arith, c.args.parts.now.ok.0)) c.index_mut.ensures.value c.requires.sized in
-    All-set Sized xs i _ (record { some_code = s.some_code; fits = s.fits; array = s.array }) c.requires.sized
+    sized_set xs c.args.number c.index_mut.result.now _ (omega (arith, c.args.parts.now.ok.0)) c.index_mut.ensures.value refl refl c.requires.sized
 
 pub returns-else-index-gt1-clause-sized : goal.returns-else-index-gt1-clause-sized
 returns-else-index-gt1-clause-sized c =
